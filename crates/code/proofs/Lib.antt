@@ -1,0 +1,4 @@
+pub mod Smallest
+pub mod Lettering
+pub mod Nexts
+pub mod Reading

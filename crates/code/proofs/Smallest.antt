@@ -1,0 +1,81 @@
+-- Laws of the limits: what is legal, and the smallest legal count.
+use Prim.Native.Nat.{ℕ, _+_, _-_, _*_, _/_, _≤_, _<_}
+use mathlib.Core.Path.{_≡_, refl, sym, ap, _∙_}
+use mathlib.Core.Bool.{Bool, true, false, cond}
+use native.Mathlib.Omega.{arith}
+use borrow.Author.Tests.{ltb-true, ltb-false, leb-true, leb-false, lt-ltb, le-ltb, le-leb, lt-leb}
+use lib.Dec.{ltb, leb}
+use Rattle.laws.proofs.Choice.{by-test, not-both}
+use Rattle.code.specs.declared.limits.Smallest.{Smallest}
+use Rattle.code.specs.declared.limits.Smallest.the-variants.{Refused, Count}
+use Rattle.code.specs.Limits.{legal, freqInRange, IsSmallest, SmallestCount}
+
+-- what a legal count is
+pub record Legal (freq count : ℕ) : Type 0 where
+  pub low : 4 ≤ count
+  pub high : count ≤ 50000
+  pub long : freq ≤ 12500 * count
+
+pub is-legal : {freq count : ℕ} → Legal freq count → legal freq count ≡ true
+unfolding legal
+is-legal {freq} {count} l =
+    rw (le-ltb count 4 (l .low), le-ltb 50000 count (l .high)) (le-leb freq (12500 * count) (l .long))
+
+pub legal-is : {freq count : ℕ} → legal freq count ≡ true → Legal freq count
+unfolding legal
+legal-is {freq} {count} e =
+    by-test (ltb count 4) (λ a. not-both (rw a at e) refl)
+    (λ a. by-test (ltb 50000 count) (λ b. not-both (rw (a, b) at e) refl)
+    (λ b. record {
+      low = ltb-false count 4 a;
+      high = ltb-false 50000 count b;
+      long = leb-true freq (12500 * count) (rw (a, b) at e);
+    }))
+
+pub not-legal : {freq count : ℕ} → (Legal freq count → ⊥) → legal freq count ≡ false
+not-legal {freq} {count} never = by-test (legal freq count) (λ e. absurd (never (legal-is e))) (λ e. e)
+
+-- ---- the smallest legal count
+pub too-low : {freq : ℕ} → freq < 15000 → freqInRange freq ≡ false
+unfolding freqInRange
+too-low {freq} h = rw (lt-ltb freq 15000 h)
+
+pub too-high : {freq : ℕ} → 500000 < freq → freqInRange freq ≡ false
+unfolding freqInRange
+too-high {freq} h = rw (le-ltb freq 15000 (omega arith)) (lt-leb freq 500000 h)
+
+in-range : {freq : ℕ} → 15000 ≤ freq → freq ≤ 500000 → freqInRange freq ≡ true
+unfolding freqInRange
+in-range {freq} l h = rw (le-ltb freq 15000 l) (le-leb freq 500000 h)
+
+pub least-count : {freq : ℕ} → 15000 ≤ freq → freq ≤ 500000 → (freq + 12499) / 12500 < 4 → SmallestCount freq (Count 4)
+least-count {freq} l h s = (
+  record {
+    allowed = is-legal (record { low = omega arith; high = omega arith; long = omega arith });
+    least = λ k b. not-legal (λ g. omega (arith, g .low));
+  },
+  in-range l h,
+)
+
+pub shortest-count : {freq : ℕ} → 15000 ≤ freq → freq ≤ 500000 → 4 ≤ (freq + 12499) / 12500
+    → SmallestCount freq (Count ((freq + 12499) / 12500))
+shortest-count {freq} l h s = (
+  record {
+    allowed = is-legal (record { low = s; high = omega arith; long = omega arith });
+    least = λ k b. not-legal (λ g. omega (arith, g .long, b));
+  },
+  in-range l h,
+)
+
+-- two answers that the promise allows are equal
+smallest-unique : (freq c d : ℕ) → IsSmallest freq c → IsSmallest freq d → c ≡ d
+smallest-unique freq c d p q =
+    by-test (ltb c d) (λ e. not-both (p .allowed) (q .least c (ltb-true c d e)))
+    (λ e. by-test (ltb d c) (λ f. not-both (q .allowed) (p .least d (ltb-true d c f)))
+    (λ f. omega (arith, ltb-false c d e, ltb-false d c f)))
+
+pub one-smallest : (freq : ℕ) (r s : Smallest) → SmallestCount freq r → SmallestCount freq s → r ≡ s
+one-smallest freq (Refused e) (Refused f) p q = ap Refused (p .0 ∙ sym (q .0))
+one-smallest freq (Refused e) (Count d) p q = not-both (q .1) (p .1)
+one-smallest freq (Count c) (Refused f) p q = not-both (p .1) (q .1)
+one-smallest freq (Count c) (Count d) p q = ap Count (smallest-unique freq c d (p .0) (q .0))

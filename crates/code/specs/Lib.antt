@@ -1,0 +1,4 @@
+pub mod Limits
+pub mod Letters
+pub mod Next
+pub mod Read

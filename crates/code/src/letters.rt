@@ -1,0 +1,68 @@
+// The pairs that have a letter.
+use crate::Code;
+use crate::Pair;
+ghost use mathlib.Core.Path.{_≡_};
+ghost use Prim.Native.Nat.{_≤_};
+ghost use lib.ListN.{length};
+ghost use Rattle.code.specs.Letters.{noLetters, samePair, placeOf, learnt, held, Kept};
+
+pub struct Letters {
+    pub count: usize,
+    pub pairs: [Pair; Code::LETTERS],
+}
+
+impl Letters {
+    pub fn none() -> Self
+        ensures { λ r. ⌜ r ≡ noLetters ⌝ }
+    {
+        Letters {
+            count: 0,
+            pairs: [Pair { on: 0, off: 0 }; Code::LETTERS],
+        }
+    }
+}
+
+pub fn same(p: Pair, q: Pair) -> bool
+    ensures { λ r. ⌜ r ≡ samePair p q ⌝ }
+{
+    if p.on == q.on { p.off == q.off } else { false }
+}
+
+// The place of a pair among those that have a letter, or their number where it has none.
+pub fn place_of(letters: Letters, p: Pair) -> usize
+    requires { ⌜ letters .count ≤ 15 ⌝ }
+    ensures { λ r. ⌜ r ≡ placeOf p (held letters) ⌝ }
+{
+    let count = letters.count;
+    let pairs = letters.pairs;
+    let mut j = 0;
+    while j < count {
+        let q = pairs[j];
+        if same(q, p) {
+            return j;
+        }
+        j += 1;
+    }
+    j
+}
+
+// The letters after one pair more.
+pub fn learn(letters: Letters, p: Pair) -> Letters
+    requires { ⌜ letters .count ≤ 15 ⌝ }
+    ensures { λ r. ⌜ Kept r (learnt (held letters) p) ⌝ }
+{
+    let count = letters.count;
+    if place_of(letters, p) < count {
+        return letters;
+    }
+    if count < Code::LETTERS {
+        let mut pairs = letters.pairs;
+        pairs[count] = p;
+        Letters {
+            count: count + 1,
+            pairs,
+        }
+    } else {
+        letters
+    }
+}

@@ -1,0 +1,62 @@
+-- Laws of lists that the library lacks.
+use Prim.Native.Nat.{ℕ, zero, suc, _+_, _-_, _≤_, _<_}
+use mathlib.Core.Path.{_≡_, refl, sym, ap, _∙_}
+use mathlib.Core.List.{List, [], _∷_, _++_, append-assoc}
+use mathlib.Core.Bool.{Bool, true, false, cond, _&&_}
+use native.Mathlib.Nat.{add-zero, add-suc, suc-add}
+use native.Mathlib.Numerals.{add-one}
+use native.Mathlib.Omega.{arith}
+use lib.ListN.{length, take, drop, getD, set, length-drop, length-append, drop-of-length-le}
+use lib.Seq.{drop-cons, getD-take, length-take-le, sets}
+use Rattle.laws.specs.Lists.{leading, all}
+use Rattle.laws.proofs.Choice.{cond-case, by-test, and-left, and-right, and-true}
+
+-- one step of a scan: the element at i, and what is behind it
+pub drop-next : {A : Type 0} (s : List A) (i : ℕ) (d : A) → i < length s → drop i s ≡ getD s i d ∷ drop (i + 1) s
+drop-next s i d h = rw (add-one, drop-cons s i d)
+
+-- the same within the first n
+pub drop-take-next : {A : Type 0} (s : List A) (n i : ℕ) (d : A) → n ≤ length s → i < n
+    → drop i (take n s) ≡ getD s i d ∷ drop (i + 1) (take n s)
+drop-take-next s n i d hn h =
+    let k : i < length (take n s) = rw (length-take-le n s hn) h in
+    rw (drop-next (take n s) i d k, getD-take n s i d h)
+
+pub drop-take-end : {A : Type 0} (s : List A) (n i : ℕ) → n ≤ length s → n ≤ i → drop i (take n s) ≡ []
+drop-take-end s n i hn h =
+    let k : length (take n s) ≤ i = rw (length-take-le n s hn) h in
+    drop-of-length-le (take n s) k
+
+-- ---- what a list begins with
+module _ (p : ℕ → Bool) where
+  pub leading-more : (s : List ℕ) (i : ℕ) → i < length s → p (getD s i 0) ≡ true
+      → leading p (drop i s) ≡ getD s i 0 ∷ leading p (drop (i + 1) s)
+  leading-more s i h e = rw (drop-next s i 0 h, e)
+
+  pub leading-stop : (s : List ℕ) (i : ℕ) → i < length s → p (getD s i 0) ≡ false → leading p (drop i s) ≡ []
+  leading-stop s i h e = rw (drop-next s i 0 h, e)
+
+  pub leading-done : (s : List ℕ) (i : ℕ) → length s ≤ i → leading p (drop i s) ≡ []
+  leading-done s i h = ap (leading p) (drop-of-length-le s h)
+
+  pub leading-length : (l : List ℕ) → length (leading p l) ≤ length l
+  leading-length [] = omega arith
+  leading-length (b ∷ l) =
+      cond-case (λ (x : List ℕ). length x ≤ suc (length l)) (p b) (b ∷ leading p l) []
+      (λ e. omega (arith, leading-length l)) (λ e. omega arith)
+
+  pub leading-all : (l rest : List ℕ) → all p l ≡ true → leading p (l ++ rest) ≡ l ++ leading p rest
+  leading-all [] rest e = refl
+  leading-all (b ∷ l) rest e =
+      rw (and-left (p b) (all p l) e, leading-all l rest (and-right (p b) (all p l) e))
+
+-- ---- a test of every element
+pub all-append : {A : Type 0} (p : A → Bool) (l m : List A) → all p l ≡ true → all p m ≡ true → all p (l ++ m) ≡ true
+all-append p [] m e f = f
+all-append p (b ∷ l) m e f =
+    and-true (p b) (all p (l ++ m)) (and-left (p b) (all p l) e) (all-append p l m (and-right (p b) (all p l) e) f)
+
+-- ---- stores one after the other
+pub sets-append : {A : Type 0} (vs ws l : List A) (i : ℕ) → sets l i (vs ++ ws) ≡ sets (sets l i vs) (i + length vs) ws
+sets-append [] ws l i = rw add-zero
+sets-append (a ∷ vs) ws l i = sets-append vs ws (set l i a) (suc i) ∙ rw (suc-add, add-suc)

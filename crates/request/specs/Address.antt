@@ -1,0 +1,52 @@
+-- Document 01: 017 "address missing or not digits, colon, digits", 002 "module not the one in the table for this request
+-- (getstate takes 1 or 2)", 003 "port not 1 to 3". The address is the whole field. A module or port of over six digits
+-- is still digits: it counts as a number above every limit.
+use Prim.Native.Nat.{ℕ, _+_}
+use mathlib.Core.List.{List, [], _∷_}
+use mathlib.Core.Bool.{Bool, true, false, cond, not, _||_}
+use lib.ListN.{length, getD}
+use lib.Dec.{ltb, leb, eqb}
+use Rattle.laws.specs.Checks.{_⇒_, first}
+use Rattle.text.specs.Number.{numberAt}
+use Rattle.text.specs.Field.{endsField}
+use Rattle.text.specs.declared.number.Number.{Number}
+use Rattle.text.specs.declared.number.Number.the-variants.{Missing, Value}
+use Rattle.request.specs.declared.name.Name.{Name}
+use Rattle.request.specs.declared.name.Name.the-variants.{SetIr, GetIr, SetState, GetState, SendIr, StopIr}
+use Rattle.request.specs.declared.address.Address.{Address}
+use Rattle.request.specs.declared.address.Address.the-variants.{Bad, At}
+
+-- behind the colon
+abbrev pub portRead : List ℕ → ℕ → Number → Address
+portRead s m Missing = Bad
+portRead s m (Value port end) = cond (endsField s end) (At m port end) Bad
+
+unfoldable pub portAt : List ℕ → ℕ → ℕ → Address
+portAt s m at = portRead s m (numberAt s at)
+
+-- 58 is the colon
+abbrev pub moduleRead : List ℕ → Number → Address
+moduleRead s Missing = Bad
+moduleRead s (Value m end) = first
+    ((leb (length s) end ⇒ Bad)
+    ∷ (not (eqb (getD s end 0) 58) ⇒ Bad)
+    ∷ []) (portAt s m (end + 1))
+
+unfoldable pub addressAt : List ℕ → ℕ → Address
+addressAt s at = moduleRead s (numberAt s at)
+
+abbrev pub hasModule : Name → ℕ → Bool
+hasModule SetIr m = eqb m 1
+hasModule GetIr m = eqb m 1
+hasModule SetState m = eqb m 2
+hasModule GetState m = eqb m 1 || eqb m 2
+hasModule SendIr m = eqb m 1
+hasModule StopIr m = eqb m 1
+
+-- 0 where the address is one that the request takes
+unfoldable pub addressFault : Name → ℕ → ℕ → ℕ
+addressFault name m port = first
+    ((not (hasModule name m) ⇒ 2)
+    ∷ (ltb port 1 ⇒ 3)
+    ∷ (ltb 3 port ⇒ 3)
+    ∷ []) 0

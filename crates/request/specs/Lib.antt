@@ -1,0 +1,5 @@
+pub mod Name
+pub mod Address
+pub mod Mode
+pub mod Fields
+pub mod Request

@@ -1,0 +1,32 @@
+-- Document 01: "modes IR, SENSOR, IR_BLASTER", 023 "mode or relay state not in its list, or missing", 014 "IR_BLASTER on a
+-- connector other than 3".
+use Prim.Native.Nat.{ℕ, _+_}
+use mathlib.Core.List.{List, [], _∷_}
+use mathlib.Core.Bool.{Bool, true, false}
+use lib.ListN.{length, drop}
+use lib.Dec.{eqb}
+use Rattle.laws.specs.Bytes.{bytes}
+use Rattle.laws.specs.Checks.{_⇒_, first}
+use Rattle.text.specs.Field.{fieldIs}
+use Rattle.request.specs.declared.mode.Mode.{Mode}
+use Rattle.request.specs.declared.mode.Mode.the-variants.{Ir, Sensor, IrBlaster}
+use Rattle.request.specs.declared.mode.ModeRead.{ModeRead}
+use Rattle.request.specs.declared.mode.ModeRead.the-variants.{Unknown, Known}
+
+abbrev pub modeWord : Mode → List ℕ
+modeWord Ir = bytes "IR"
+modeWord Sensor = bytes "SENSOR"
+modeWord IrBlaster = bytes "IR_BLASTER"
+
+-- the mode that the field at a place is, and where that field ends
+unfoldable pub modeAt : List ℕ → ℕ → ModeRead
+modeAt s at = first
+    ((fieldIs (modeWord Ir) (drop at s) ⇒ Known Ir (at + length (modeWord Ir)))
+    ∷ (fieldIs (modeWord Sensor) (drop at s) ⇒ Known Sensor (at + length (modeWord Sensor)))
+    ∷ (fieldIs (modeWord IrBlaster) (drop at s) ⇒ Known IrBlaster (at + length (modeWord IrBlaster)))
+    ∷ []) Unknown
+
+abbrev pub mayHave : ℕ → Mode → Bool
+mayHave port Ir = true
+mayHave port Sensor = true
+mayHave port IrBlaster = eqb port 3

@@ -1,0 +1,60 @@
+// The fields of a sendir.
+use code::Code;
+use text::field::Field;
+ghost use mathlib.Core.Path.{_≡_};
+ghost use Rattle.request.specs.Fields.{capped, sentAt};
+
+pub struct Fields {
+    pub id: u64,
+    pub freq: u64,
+    pub repeat: u64,
+    pub offset: u64,
+}
+
+// A sendir behind its address: the first fault of its fields, or the fields and where the code begins.
+pub enum Sent {
+    Fault(u64),
+    Fields(Fields, usize),
+}
+
+pub fn capped(repeat: u64) -> u64
+    ensures { λ r. ⌜ r ≡ capped repeat ⌝ }
+{
+    if Code::REPEAT_CAP < repeat {
+        Code::REPEAT_CAP
+    } else {
+        repeat
+    }
+}
+
+// The fields that begin at a place.
+pub fn sent_at(s: &[u8], at: usize) -> Sent
+    ensures { λ r. ⌜ r ≡ sentAt (now (s .entry)) at ⌝ }
+{
+    let Field::Good(id, a) = text::field::field_within(s, at, 0, Code::MOST_ID) else {
+        return Sent::Fault(4);
+    };
+    let b = text::field::after_comma(s, a);
+    let Field::Good(freq, c) = text::field::field_within(s, b, Code::LEAST_FREQ, Code::MOST_FREQ)
+    else {
+        return Sent::Fault(5);
+    };
+    let d = text::field::after_comma(s, c);
+    let Field::Good(repeat, e) = text::field::field_within(s, d, 1, Code::MOST_REPEAT) else {
+        return Sent::Fault(6);
+    };
+    let f = text::field::after_comma(s, e);
+    let Field::Good(offset, g) = text::field::field_within(s, f, 1, Code::MOST_OFFSET) else {
+        return Sent::Fault(7);
+    };
+    if offset % 2 == 0 {
+        return Sent::Fault(7);
+    }
+    let fields = Fields {
+        id,
+        freq,
+        repeat: capped(repeat),
+        offset,
+    };
+    Sent::Fields(fields, text::field::after_comma(s, g))
+}

@@ -1,0 +1,45 @@
+// A connector's mode.
+ghost use mathlib.Core.Path.{_≡_};
+ghost use Rattle.request.specs.Mode.{modeAt, mayHave};
+
+pub enum Mode {
+    Ir,
+    Sensor,
+    IrBlaster,
+}
+
+// A mode and the place where its field ends, or none.
+pub enum ModeRead {
+    Unknown,
+    Known(Mode, usize),
+}
+
+// The mode that the field at a place is.
+pub fn mode_at(s: &[u8], at: usize) -> ModeRead
+    ensures { λ r. ⌜ r ≡ modeAt (now (s .entry)) at ⌝ }
+{
+    if s.len() <= at {
+        return ModeRead::Unknown;
+    }
+    if text::field::field_is(s, at, b"IR") {
+        return ModeRead::Known(Mode::Ir, at + 2);
+    }
+    if text::field::field_is(s, at, b"SENSOR") {
+        return ModeRead::Known(Mode::Sensor, at + 6);
+    }
+    if text::field::field_is(s, at, b"IR_BLASTER") {
+        return ModeRead::Known(Mode::IrBlaster, at + 10);
+    }
+    ModeRead::Unknown
+}
+
+// Whether a connector may have a mode: IR_BLASTER is connector 3's alone.
+pub fn may_have(port: u64, mode: Mode) -> bool
+    ensures { λ r. ⌜ r ≡ mayHave port mode ⌝ }
+{
+    match mode {
+        Mode::Ir => true,
+        Mode::Sensor => true,
+        Mode::IrBlaster => port == 3,
+    }
+}

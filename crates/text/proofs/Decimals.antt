@@ -1,0 +1,124 @@
+-- Laws of decimals: how they are written, and that the reader reads what was written.
+use Prim.Native.Nat.{ℕ, zero, suc, _+_, _-_, _*_, _/_, _%_, _^_, _≤_, _<_}
+use mathlib.Core.Path.{_≡_, refl, sym, ap, _∙_}
+use mathlib.Core.List.{List, [], _∷_, _++_, append-assoc, append-nil}
+use mathlib.Core.Bool.{Bool, true, false, cond, _&&_}
+use native.Mathlib.Nat.{pow-succ'}
+use native.Mathlib.Omega.{arith}
+use borrow.Author.Tests.{lt-ltb, le-ltb, ltb-true, ltb-false, le-leb, ne-eqb}
+use lib.Dec.{ltb, leb, eqb}
+use lib.ListN.{length, set, drop, length-append}
+use lib.Seq.{sets, drop-append-seam}
+use Rattle.laws.specs.Lists.{all}
+use Rattle.laws.specs.Put.{Put}
+use Rattle.laws.proofs.Choice.{by-test}
+use Rattle.laws.proofs.Lists.{sets-append, leading-all, all-append}
+use Rattle.laws.proofs.Put.{then, byte}
+use Rattle.text.specs.declared.number.Number.the-variants.{Value}
+use Rattle.text.specs.Number.{isDigit, run, worth, number, numberOf, numberAt}
+use Rattle.text.specs.Decimal.{decimalIn, decimal}
+
+tenth : (n p : ℕ) → n < 10 * p → n / 10 < p
+tenth n p h = omega arith
+
+-- room for more digits changes nothing
+fuel : (k n : ℕ) → n < 10 ^ suc k → decimalIn (suc (suc k)) n ≡ decimalIn (suc k) n
+fuel zero n h = rw (lt-ltb n 10 h)
+fuel (suc k) n h =
+    ap (λ (l : List ℕ). cond (ltb n 10) ((48 + n % 10) ∷ []) (l ++ ((48 + n % 10) ∷ [])))
+    (fuel k (n / 10) (tenth n (10 ^ suc k) (rw pow-succ' at h)))
+
+pub decimal-small : (n : ℕ) → n < 10 → decimal n ≡ (48 + n % 10) ∷ []
+unfolding decimal
+decimal-small n h = rw (lt-ltb n 10 h)
+
+-- every 64-bit number has room
+pub decimal-step : (n : ℕ) → 10 ≤ n → n < 2 ^ 64 → decimal n ≡ decimal (n / 10) ++ ((48 + n % 10) ∷ [])
+unfolding decimal
+decimal-step n l h =
+    rw (le-ltb n 10 l) (ap (λ (l : List ℕ). l ++ ((48 + n % 10) ∷ [])) (sym (fuel 18 (n / 10) (omega arith))))
+
+pub decimal-longer : (n : ℕ) → 10 ≤ n → n < 2 ^ 64 → length (decimal n) ≡ length (decimal (n / 10)) + 1
+decimal-longer n l h = ap length (decimal-step n l h) ∙ length-append (decimal (n / 10)) ((48 + n % 10) ∷ [])
+
+-- the store of the last digit
+pub put-last : {b b₁ : List ℕ} {at m n : ℕ} → 10 ≤ n → n < 2 ^ 64 → Put b at (decimal (n / 10)) b₁ m
+    → Put b at (decimal n) (set b₁ m (48 + n % 10)) (m + 1)
+put-last {b} {b₁} {at} {m} {n} l h p = rw (decimal-step n l h) (then p (byte b₁ m (48 + n % 10)))
+
+-- ---- read back
+
+digit : (n : ℕ) → isDigit (48 + n % 10) ≡ true
+digit n = rw (le-ltb (48 + n % 10) 48 (omega arith), le-leb (48 + n % 10) 57 (omega arith))
+
+worth-snoc : (xs : List ℕ) (v b : ℕ) → worth v (xs ++ (b ∷ [])) ≡ worth v xs * 10 + (b - 48)
+worth-snoc [] v b = refl
+worth-snoc (a ∷ xs) v b = worth-snoc xs (v * 10 + (a - 48)) b
+
+-- all that is said of a decimal
+record Fine (k n : ℕ) : Type 0 where
+  digits : all isDigit (decimalIn k n) ≡ true
+  value : n < 10 ^ k → worth 0 (decimalIn k n) ≡ n
+  few : (j : ℕ) → n < 10 ^ suc j → length (decimalIn k n) ≤ suc j
+
+fine : (k n : ℕ) → Fine k n
+fine zero n = record { digits = refl; value = λ h. omega arith; few = λ j h. omega arith }
+fine (suc k) n = by-test (ltb n 10) small (λ e. large e (fine k (n / 10)))
+  where
+    small : ltb n 10 ≡ true → Fine (suc k) n
+    small e =
+        record {
+          digits = rw (e, digit n);
+          value = λ h. rw e (omega (arith, ltb-true n 10 e));
+          few = λ j h. rw e (omega arith);
+        }
+
+    shorter : (j : ℕ) → 10 ≤ n → n < 10 ^ suc j → ((i : ℕ) → n / 10 < 10 ^ suc i → length (decimalIn k (n / 10)) ≤ suc i)
+        → length (decimalIn k (n / 10)) + 1 ≤ suc j
+    shorter zero l h f = absurd (omega arith)
+    shorter (suc j) l h f = omega (arith, f j (tenth n (10 ^ suc j) (rw pow-succ' at h)))
+
+    large : ltb n 10 ≡ false → Fine k (n / 10) → Fine (suc k) n
+    large e f =
+        record {
+          digits = rw e (all-append isDigit (decimalIn k (n / 10)) ((48 + n % 10) ∷ []) (f .digits) (rw (digit n)));
+          value = λ h. rw (e, worth-snoc, f .value (tenth n (10 ^ k) (rw pow-succ' at h))) (omega arith);
+          few = λ j h. rw (e, length-append) (shorter j (ltb-false n 10 e) h (f .few));
+        }
+
+pub decimal-digits : (n : ℕ) → all isDigit (decimal n) ≡ true
+unfolding decimal
+decimal-digits n = fine 20 n .digits
+
+-- a number below a million has at most six digits
+pub decimal-few : (n : ℕ) → n < 1000000 → length (decimal n) ≤ 6
+unfolding decimal
+decimal-few n h = fine 20 n .few 5 h
+
+pub decimal-some : (n : ℕ) → 1 ≤ length (decimal n)
+unfolding decimal
+decimal-some n = by-test (ltb n 10) (λ e. rw e (omega arith)) (λ e. rw (e, length-append) (omega arith))
+
+pub decimal-run : (n : ℕ) (rest : List ℕ) → run (decimal n ++ rest) ≡ decimal n ++ run rest
+decimal-run n rest = leading-all isDigit (decimal n) rest (decimal-digits n)
+
+decimal-worth : (n : ℕ) → n < 1000000 → worth 0 (decimal n) ≡ n
+unfolding decimal
+decimal-worth n h = fine 20 n .value (omega arith)
+
+-- the reader reads what was written, wherever it stands
+pub read-back : (p rest : List ℕ) (n at : ℕ) → length p ≡ at → n < 1000000 → run rest ≡ []
+    → numberAt (p ++ decimal n ++ rest) at ≡ Value n (at + length (decimal n))
+unfolding numberAt numberOf number
+read-back p rest n at l h e =
+    let g : run (decimal n ++ rest) ≡ decimal n =
+    decimal-run n rest ∙ ap (λ (l : List ℕ). decimal n ++ l) e ∙ append-nil (decimal n) in
+    rw (
+      ← l,
+      append-assoc p (decimal n) rest,
+      drop-append-seam p (decimal n ++ rest),
+      g,
+      ne-eqb (length (decimal n)) 0 (omega (arith, decimal-some n)),
+      le-leb (length (decimal n)) 6 (decimal-few n h),
+      decimal-worth n h,
+    )

@@ -1,0 +1,3 @@
+pub mod CodeText
+pub mod Given
+pub mod Sendir

@@ -1,11 +1,11 @@
--- Laws of the loop that reads a code, and that what is read is within the limits.
+-- Laws of the loop that reads a code.
 use Prim.Native.Nat.{ℕ, zero, suc, _+_, _-_, _≤_, _<_}
 use mathlib.Core.Path.{_≡_, refl, sym, ap, _∙_, subst}
 use mathlib.Core.List.{List, [], _∷_, _++_}
 use native.Mathlib.Numerals.{add-one}
 use native.Mathlib.Omega.{arith}
-use lib.ListN.{length, take, drop, getD, set, replicate, length-set, take-append-drop}
-use lib.Seq.{getD-take, length-take-le, take-suc-set, drop-set-lt, drop-drop}
+use lib.ListN.{length, take, getD, set, replicate}
+use lib.Seq.{getD-take, take-suc-set}
 use Rattle.code.specs.declared.Pair.{Pair}
 use Rattle.code.specs.declared.CodeRead.the-variants.{Pairs}
 use Rattle.code.specs.declared.letters.Letters.{Letters}
@@ -16,54 +16,47 @@ use Rattle.code.specs.declared.next.After.the-variants.{Nothing, Spellin
 use Rattle.code.specs.Letters.{pair, noLetters, learnt, held, Kept}
 use Rattle.code.specs.Next.{nextPair}
 use Rattle.code.specs.Read.{Reading, pairs, fault, onward, readFrom, readCode, codeOf}
+use Rattle.code.proofs.Filled.{Filled, filled-none, filled-taken, filled-more, filled-code}
 use Rattle.code.proofs.Nexts.{Sound, next-sound}
 
 -- after so many pairs, at a place: what is left gives the same reading
 pub record Going (freq : ℕ) (s : List ℕ) (start : ℕ) (ps : List Pair) (t : Letters) (count at : ℕ) (after : After) : Type 0 where
   pub kept : Kept t (held t)
-  pub room : count ≤ 260
-  pub long : length ps ≡ 260
-  pub rest : drop count ps ≡ replicate (260 - count) (pair 0 0)
+  pub filled : Filled ps count
   pub goes : readFrom (261 - count) freq s (take count ps) (held t) after at ≡ readCode freq s start
 
 pub going-start : (freq : ℕ) (s : List ℕ) (start : ℕ) → Going freq s start (replicate 260 (pair 0 0)) noLetters 0 start Nothing
 unfolding readCode
 going-start freq s start =
-    record { kept = record { few = omega arith; counted = refl; are = refl }; room = omega arith; long = refl; rest = refl; goes = refl }
+    record { kept = record { few = omega arith; counted = refl; are = refl }; filled = filled-none; goes = refl }
 
 module _ {freq : ℕ} {s : List ℕ} {start : ℕ} {ps : List Pair} {t : Letters} {count at : ℕ} {after : After}
     (g : Going freq s start ps t count at after) where
-  taken : length (take count ps) ≡ count
-  taken = length-take-le count ps (omega (arith, g .room, g .long))
-
   module _ {x : Next} (e : nextPair freq count (t .count) after s at ≡ x) where
     -- one turn of the definition
     turn : onward (readFrom (260 - count) freq s) (take count ps) (held t) x ≡ readCode freq s start
     turn =
-        let k : 261 - count ≡ suc (260 - count) = omega (arith, g .room) in
-        rw (k, taken, g .kept .counted, e) at (g .goes)
+        let k : 261 - count ≡ suc (260 - count) = omega (arith, g .filled .room) in
+        rw (k, filled-taken (g .filled), g .kept .counted, e) at (g .goes)
 
-    pub going-sound : Sound freq count (t .count) x
-    going-sound = subst (Sound freq count (t .count)) e (next-sound freq count (t .count) s after at)
+    pub going-sound : Sound freq count (t .count) after x
+    going-sound = subst (Sound freq count (t .count) after) e (next-sound freq count (t .count) after s at)
 
   -- a pair more
   more : (p : Pair) {t′ : Letters} {letters : List Pair} {next : ℕ} {after′ : After} → count < 260 → Kept t′ letters
       → readFrom (260 - count) freq s (take count ps ++ (p ∷ [])) letters after′ next ≡ readCode freq s start
       → Going freq s start (set ps count p) t′ (count + 1) next after′
   more p {t′} h k e =
-      let m : count < length ps = omega (arith, g .long) in
+      let m : count < length ps = omega (arith, g .filled .long) in
       let d : 261 - (count + 1) ≡ 260 - count = omega arith in
-      let f : 260 - count ≡ suc (260 - (count + 1)) = omega arith in
       record {
         kept = record { few = k .few; counted = k .counted; are = refl };
-        room = omega arith;
-        long = length-set ps count p ∙ g .long;
-        rest = drop-set-lt (count + 1) ps count p (omega arith) ∙ sym (drop-drop 1 count ps) ∙ ap (drop 1) (g .rest) ∙ rw f;
+        filled = filled-more (g .filled) h p;
         goes = rw (d, add-one, take-suc-set ps count p m, k .are) e;
       }
 
   pub going-end : nextPair freq count (t .count) after s at ≡ End → record { read = Pairs count; pairs = ps } ≡ codeOf (readCode freq s start)
-  going-end e = rw (← turn e, taken, ← g .rest, take-append-drop count ps)
+  going-end e = filled-code (g .filled) ∙ ap codeOf (turn e)
 
   pub going-fault : {k : ℕ} → nextPair freq count (t .count) after s at ≡ Fault k → codeOf (fault k) ≡ codeOf (readCode freq s start)
   going-fault e = ap codeOf (turn e)

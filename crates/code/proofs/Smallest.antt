@@ -5,7 +5,7 @@ use mathlib.Core.Bool.{Bool, true, false, cond}
 use native.Mathlib.Omega.{arith}
 use borrow.Author.Tests.{ltb-true, ltb-false, leb-true, leb-false, lt-ltb, le-ltb, le-leb, lt-leb}
 use lib.Dec.{ltb, leb}
-use Rattle.laws.proofs.Choice.{by-test, not-both}
+use Rattle.laws.proofs.Choice.{by-test, not-both, guard}
 use Rattle.code.specs.declared.limits.Smallest.{Smallest}
 use Rattle.code.specs.declared.limits.Smallest.the-variants.{Refused, Count}
 use Rattle.code.specs.Limits.{legal, freqInRange, IsSmallest, SmallestCount}
@@ -24,13 +24,13 @@ is-legal {freq} {count} l =
 pub legal-is : {freq count : ℕ} → legal freq count ≡ true → Legal freq count
 unfolding legal
 legal-is {freq} {count} e =
-    by-test (ltb count 4) (λ a. not-both (rw a at e) refl)
-    (λ a. by-test (ltb 50000 count) (λ b. not-both (rw (a, b) at e) refl)
-    (λ b. record {
-      low = ltb-false count 4 a;
-      high = ltb-false 50000 count b;
-      long = leb-true freq (12500 * count) (rw (a, b) at e);
-    }))
+    let low = guard (ltb count 4) _ e in
+    let high = guard (ltb 50000 count) _ (low .1) in
+    record {
+      low = ltb-false count 4 (low .0);
+      high = ltb-false 50000 count (high .0);
+      long = leb-true freq (12500 * count) (high .1);
+    }
 
 pub not-legal : {freq count : ℕ} → (Legal freq count → ⊥) → legal freq count ≡ false
 not-legal {freq} {count} never = by-test (legal freq count) (λ e. absurd (never (legal-is e))) (λ e. e)

@@ -2,8 +2,9 @@
 -- count for a frequency is a public answer, refused with 005 for a frequency out of range."
 use Prim.Native.Nat.{ℕ, _*_, _<_}
 use mathlib.Core.Path.{_≡_}
-use mathlib.Core.Bool.{Bool, true, false, cond}
+use mathlib.Core.Bool.{Bool, true, false, cond, _&&_}
 use lib.Dec.{ltb, leb}
+use Rattle.code.specs.declared.Pair.{Pair}
 use Rattle.code.specs.declared.limits.Smallest.{Smallest}
 use Rattle.code.specs.declared.limits.Smallest.the-variants.{Refused, Count}
 
@@ -11,11 +12,19 @@ unfoldable pub legal : ℕ → ℕ → Bool
 legal freq count = cond (ltb count 4) false (cond (ltb 50000 count) false (leb freq (12500 * count)))
 
 -- "id 0 to 65535; freq 15000 to 500000 Hz; repeat 1 to 999999 ..; offset odd, 1 to 383."
-abbrev pub mostId leastFreq mostFreq mostRepeat mostOffset : ℕ
+abbrev pub mostId : ℕ
 mostId = 65535
+
+abbrev pub leastFreq : ℕ
 leastFreq = 15000
+
+abbrev pub mostFreq : ℕ
 mostFreq = 500000
+
+abbrev pub mostRepeat : ℕ
 mostRepeat = 999999
+
+abbrev pub mostOffset : ℕ
 mostOffset = 383
 
 unfoldable pub freqInRange : ℕ → Bool
@@ -33,3 +42,7 @@ pub record IsSmallest (freq count : ℕ) : Type 0 where
 abbrev pub SmallestCount : ℕ → Smallest → Type 0
 SmallestCount freq (Refused number) = (number ≡ 5) × (freqInRange freq ≡ false)
 SmallestCount freq (Count count) = IsSmallest freq count × (freqInRange freq ≡ true)
+
+-- both counts of a pair are legal
+abbrev pub legalPair : ℕ → Pair → Bool
+legalPair freq p = legal freq (p .on) && legal freq (p .off)

@@ -19,6 +19,11 @@ by-test false f g = g refl
 pub not-both : {A : Type 0} {t : Bool} → t ≡ true → t ≡ false → A
 not-both e f = let z : _≡_ {A = ℕ} 0 1 = cc in absurd (omega arith)
 
+-- a check that did not refuse, and those behind it
+pub guard : (t x : Bool) → cond t false x ≡ true → (t ≡ false) × (x ≡ true)
+guard true x e = not-both e refl
+guard false x e = (refl, e)
+
 pub and-left : (a b : Bool) → a && b ≡ true → a ≡ true
 and-left true b e = refl
 and-left false b e = not-both e refl

@@ -7,7 +7,7 @@ use native.Mathlib.Nat.{add-zero, add-suc, suc-add}
 use native.Mathlib.Numerals.{add-one}
 use native.Mathlib.Omega.{arith}
 use lib.ListN.{length, take, drop, getD, set, length-drop, length-append, drop-of-length-le}
-use lib.Seq.{drop-cons, getD-take, length-take-le, sets}
+use lib.Seq.{drop-cons, drop-drop, drop-append-seam, getD-drop, getD-take, length-take-le, sets}
 use Rattle.laws.specs.Lists.{leading, all}
 use Rattle.laws.proofs.Choice.{cond-case, by-test, and-left, and-right, and-true}
 
@@ -56,7 +56,38 @@ all-append p [] m e f = f
 all-append p (b ∷ l) m e f =
     and-true (p b) (all p (l ++ m)) (and-left (p b) (all p l) e) (all-append p l m (and-right (p b) (all p l) e) f)
 
+pub all-at : {A : Type 0} (p : A → Bool) (l : List A) (i : ℕ) (d : A) → all p l ≡ true → i < length l → p (getD l i d) ≡ true
+all-at p [] i d e h = absurd (omega arith)
+all-at p (b ∷ l) zero d e h = and-left (p b) (all p l) e
+all-at p (b ∷ l) (suc i) d e h = all-at p l i d (and-right (p b) (all p l) e) (omega arith)
+
+-- the loop that tests every element
+module _ {A : Type 0} (p : A → Bool) (s : List A) (i : ℕ) (d : A) where
+  pub all-more : i < length s → p (getD s i d) ≡ true → all p (drop i s) ≡ all p (drop (i + 1) s)
+  all-more h e = rw (drop-next s i d h, e)
+
+  pub all-stop : i < length s → p (getD s i d) ≡ false → all p (drop i s) ≡ false
+  all-stop h e = rw (drop-next s i d h, e)
+
+  pub all-done : length s ≤ i → all p (drop i s) ≡ true
+  all-done h = ap (all p) (drop-of-length-le s h)
+
 -- ---- stores one after the other
 pub sets-append : {A : Type 0} (vs ws l : List A) (i : ℕ) → sets l i (vs ++ ws) ≡ sets (sets l i vs) (i + length vs) ws
 sets-append [] ws l i = rw add-zero
 sets-append (a ∷ vs) ws l i = sets-append vs ws (set l i a) (suc i) ∙ rw (suc-add, add-suc)
+
+-- ---- what stands at a place of a list
+module _ {A : Type 0} (s : List A) (at : ℕ) where
+  pub stands-at : (b : A) (rest : List A) (d : A) → drop at s ≡ b ∷ rest → getD s at d ≡ b
+  stands-at b rest d e =
+      ap (λ (i : ℕ). getD s i d) (sym (add-zero at)) ∙ sym (getD-drop at s 0 d) ∙ ap (λ (l : List A). getD l 0 d) e
+
+  pub stands-below : (b : A) (rest : List A) → drop at s ≡ b ∷ rest → at < length s
+  stands-below b rest e = omega (arith, sym (length-drop at s) ∙ ap length e)
+
+  pub stands-end : drop at s ≡ [] → length s ≤ at
+  stands-end e = omega (arith, sym (length-drop at s) ∙ ap length e)
+
+  pub stands-behind : (xs rest : List A) → drop at s ≡ xs ++ rest → drop (at + length xs) s ≡ rest
+  stands-behind xs rest e = sym (drop-drop (length xs) at s) ∙ ap (drop (length xs)) e ∙ drop-append-seam xs rest

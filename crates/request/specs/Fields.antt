@@ -7,6 +7,7 @@ use lib.Dec.{ltb, eqb}
 use Rattle.text.specs.Field.{afterComma, fieldWithin}
 use Rattle.text.specs.declared.field.Field.{Field}
 use Rattle.text.specs.declared.field.Field.the-variants.{Bad, Good}
+use Rattle.code.specs.Limits.{mostId, leastFreq, mostFreq, mostRepeat, mostOffset}
 use Rattle.request.specs.declared.fields.Fields.{Fields}
 use Rattle.request.specs.declared.fields.Sent.{Sent}
 use Rattle.request.specs.declared.fields.Sent.the-variants as sent
@@ -25,8 +26,8 @@ need (Good value end) number go = go value end
 -- what begins at a place behind the address; the code begins behind the offset's comma
 unfoldable pub sentAt : List ℕ → ℕ → Sent
 sentAt s at =
-    need (fieldWithin 0 65535 s at) 4 λ id a.
-    need (fieldWithin 15000 500000 s (afterComma s a)) 5 λ freq b.
-    need (fieldWithin 1 999999 s (afterComma s b)) 6 λ repeat c.
-    need (fieldWithin 1 383 s (afterComma s c)) 7 λ offset d.
+    need (fieldWithin 0 mostId s at) 4 λ id a.
+    need (fieldWithin leastFreq mostFreq s (afterComma s a)) 5 λ freq b.
+    need (fieldWithin 1 mostRepeat s (afterComma s b)) 6 λ repeat c.
+    need (fieldWithin 1 mostOffset s (afterComma s c)) 7 λ offset d.
     cond (eqb (offset % 2) 0) (sent.Fault 7) (sent.Fields (fieldsOf id freq (capped repeat) offset) (afterComma s d))

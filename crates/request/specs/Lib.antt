@@ -3,3 +3,4 @@ pub mod Address
 pub mod Mode
 pub mod Fields
 pub mod Request
+pub mod Accepted

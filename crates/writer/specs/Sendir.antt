@@ -45,10 +45,10 @@ codeOutcome form c (pairs ps) =
 
 unfoldable pub outcome : ℕ → Form → Command → List ℕ → Outcome
 outcome room form c counts = first
-    ( (ltb room 4096 ⇒ refused 105)
+    ((ltb room 4096 ⇒ refused 105)
     ∷ (not (addressWithin (c .m) (c .port)) ⇒ refused 106)
     ∷ (not (fieldsWithin (c .fields)) ⇒ refused 106)
-    ∷ [] ) (codeOutcome form c (countsGiven (c .fields .freq) counts))
+    ∷ []) (codeOutcome form c (countsGiven (c .fields .freq) counts))
 
 abbrev pub answerOf : Outcome → Written
 answerOf (refused number) = Refused number

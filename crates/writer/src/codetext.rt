@@ -39,7 +39,7 @@ fn put_comma(buf: &mut [u8], at: usize, after: After) -> usize
 
 fn put_spelled(buf: &mut [u8], at: usize, after: After, on: u16, off: u16) -> usize
     requires { ⌜ at + 14 ≤ length (now buf) ⌝ }
-    ensures { λ r. ⌜ Put (now (buf .entry)) at (comma after ++ spelling (pair on off)) (now (buf .exit)) r ⌝ }
+    ensures { λ r. ⌜ Put (now (buf .entry)) at (comma after ++ spelling (pair on off)) (now (buf .exit)) r × (r ≤ at + 14) ⌝ }
 {
     let a = put_comma(buf, at, after);
     let b = text::write::put_number(buf, a, on as u64);
@@ -48,7 +48,13 @@ fn put_spelled(buf: &mut [u8], at: usize, after: After, on: u16, off: u16) -> us
 }
 
 // The text of the first count pairs.
-pub fn put_code(buf: &mut [u8], at: usize, form: Form, count: usize, pairs: [Pair; Code::MOST_PAIRS]) -> usize
+pub fn put_code(
+    buf: &mut [u8],
+    at: usize,
+    form: Form,
+    count: usize,
+    pairs: [Pair; Code::MOST_PAIRS],
+) -> usize
     requires { ⌜ (count ≤ 260) × (at + 14 * count ≤ length (now buf)) ⌝ }
     ensures { λ r. ⌜ Put (now (buf .entry)) at (codeText form (take count pairs)) (now (buf .exit)) r ⌝ }
 {

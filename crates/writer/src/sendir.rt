@@ -28,7 +28,7 @@ impl Written {
 // A number and its comma.
 fn put_field(buf: &mut [u8], at: usize, n: u64) -> usize
     requires { ⌜ (n < 1000000) × (at + 7 ≤ length (now buf)) ⌝ }
-    ensures { λ r. ⌜ Put (now (buf .entry)) at (fieldText n) (now (buf .exit)) r ⌝ }
+    ensures { λ r. ⌜ Put (now (buf .entry)) at (fieldText n) (now (buf .exit)) r × (r ≤ at + 7) ⌝ }
 {
     let a = text::write::put_number(buf, at, n);
     text::write::put_word(buf, a, b",")
@@ -69,8 +69,9 @@ pub fn write_sendir(buf: &mut [u8], form: Form, command: Command, counts: &[u64]
             if (2 * count) as u64 <= f.offset {
                 return Written::Refused(106);
             }
+            let pairs = code.pairs;
             let o = put_head(buf, command.port, f);
-            Written::Line(crate::codetext::put_code(buf, o, form, count, code.pairs))
+            Written::Line(crate::codetext::put_code(buf, o, form, count, pairs))
         }
     }
 }

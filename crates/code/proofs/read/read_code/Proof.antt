@@ -53,7 +53,7 @@ learn-requires : tie.Need-learn-requires Inv-loop μ-loop
 learn-requires c κs = c .before .before .before .before .loop .inv .kept .few
 
 add-count : tie.Need-add-count Inv-loop μ-loop
-add-count c = omega (arith, c .before .before .before .before .before .loop .inv .room)
+add-count c = omega (arith, c .before .before .before .before .before .loop .inv .filled .room)
 
 loop-less : tie.Need-loop-less Inv-loop μ-loop
 loop-less c = omega (arith, going-sound (c .before .before .before .before .before .loop .inv) (sym (c .before .before .before .before .next-pair .ensures) ∙ c .before .before .on .given .1) .0)
@@ -77,7 +77,7 @@ array-set-from-pairs-2 : tie.Need-array-set-from-pairs-2 Inv-loop μ-loop
 array-set-from-pairs-2 c = going-sound (c .before .before .before .before .before .before .loop .inv) (sym (c .before .before .before .before .before .next-pair .ensures) ∙ c .before .before .before .i .given .1) .0
 
 add-count-2 : tie.Need-add-count-2 Inv-loop μ-loop
-add-count-2 c = omega (arith, c .before .before .before .before .before .before .loop .inv .room)
+add-count-2 c = omega (arith, c .before .before .before .before .before .before .loop .inv .filled .room)
 
 loop-less-2 : tie.Need-loop-less-2 Inv-loop μ-loop
 loop-less-2 c = omega (arith, going-sound (c .before .before .before .before .before .before .loop .inv) (sym (c .before .before .before .before .before .next-pair .ensures) ∙ c .before .before .before .i .given .1) .0)

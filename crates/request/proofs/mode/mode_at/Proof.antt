@@ -1,0 +1,93 @@
+use Prim.Native.Nat.{_<_}
+use mathlib.Core.Path.{_≡_, sym, _∙_}
+use mathlib.Core.Bool.{false}
+use native.Mathlib.Omega.{arith}
+use denote.Ref.{now}
+use lib.ListN.{length, drop}
+use Rattle.text.specs.Field.{fieldIs}
+use Rattle.text.proofs.Words.{word-short}
+use Rattle.request.specs.declared.mode.Mode.{Mode}
+use Rattle.request.specs.declared.mode.Mode.the-variants.{Ir, Sensor, IrBlaster}
+use Rattle.request.specs.Mode.{modeWord, modeAt}
+use borrow.Author.Needs.{needs}
+use Rattle.request.proofs.mode.mode_at.Statement.{statement}
+use Rattle.request.proofs.mode.mode_at.Tie as tie
+
+none : (c : tie.Then1) (m : Mode) → 0 < length (modeWord m) → fieldIs (modeWord m) (drop (c .before .before .args .at) (now (c .before .before .args .s))) ≡ false
+none c m h = word-short (modeWord m) (now (c .before .before .args .s)) 0 (c .before .before .args .at) h (c .if1 .taken)
+
+returns : tie.Need-returns
+unfolding modeAt
+returns c = rw (none c Ir (omega arith), none c Sensor (omega arith), none c IrBlaster (omega arith))
+
+slice-aggregate-field-is : tie.Need-slice-aggregate-field-is
+slice-aggregate-field-is c = search needs
+
+field-is-requires : tie.Need-field-is-requires
+field-is-requires c κs = search needs
+
+add-t12 : tie.Need-add-t12
+add-t12 c = search needs
+
+returns-2 : tie.Need-returns-2
+unfolding modeAt
+returns-2 c = rw (sym (c .before .field-is .ensures) ∙ c .if2 .taken)
+
+slice-aggregate-field-is-2 : tie.Need-slice-aggregate-field-is-2
+slice-aggregate-field-is-2 c = search needs
+
+field-is-requires-2 : tie.Need-field-is-requires-2
+field-is-requires-2 c κs = search needs
+
+add-t17 : tie.Need-add-t17
+add-t17 c = search needs
+
+returns-3 : tie.Need-returns-3
+unfolding modeAt
+returns-3 c = rw (sym (c .before .before .before .before .field-is .ensures) ∙ c .before .before .before .if2 .left, sym (c .before .field-is2 .ensures) ∙ c .if3 .taken)
+
+slice-aggregate-field-is-3 : tie.Need-slice-aggregate-field-is-3
+slice-aggregate-field-is-3 c = search needs
+
+field-is-requires-3 : tie.Need-field-is-requires-3
+field-is-requires-3 c κs = search needs
+
+add-t22 : tie.Need-add-t22
+add-t22 c = search needs
+
+returns-4 : tie.Need-returns-4
+unfolding modeAt
+returns-4 c =
+    rw (
+      sym (c .before .before .before .before .before .before .before .field-is .ensures) ∙ c .before .before .before .before .before .before .if2 .left,
+      sym (c .before .before .before .before .field-is2 .ensures) ∙ c .before .before .before .if3 .left,
+      sym (c .before .field-is3 .ensures) ∙ c .if4 .taken,
+    )
+
+returns-5 : tie.Need-returns-5
+unfolding modeAt
+returns-5 c =
+    rw (
+      sym (c .before .before .before .before .before .before .before .field-is .ensures) ∙ c .before .before .before .before .before .before .if2 .left,
+      sym (c .before .before .before .before .field-is2 .ensures) ∙ c .before .before .before .if3 .left,
+      sym (c .before .field-is3 .ensures) ∙ c .if4 .left,
+    )
+
+pub mode-at-spec : {M : Type 1} → statement M
+mode-at-spec =
+    tie.close
+    (tie.spec
+    returns
+    slice-aggregate-field-is
+    field-is-requires
+    add-t12
+    returns-2
+    slice-aggregate-field-is-2
+    field-is-requires-2
+    add-t17
+    returns-3
+    slice-aggregate-field-is-3
+    field-is-requires-3
+    add-t22
+    returns-4
+    returns-5)

@@ -1,0 +1,92 @@
+use borrow.Author.Needs.{needs}
+use Rattle.request.proofs.read.at_address.Statement.{statement}
+use Rattle.request.proofs.read.at_address.Tie as tie
+
+enum-told : tie.Need-enum-told
+enum-told c = search needs
+
+after-comma-requires : tie.Need-after-comma-requires
+after-comma-requires c κs = search needs
+
+set-ir-at-requires : tie.Need-set-ir-at-requires
+set-ir-at-requires c κs = search needs
+
+enum-told-2 : tie.Need-enum-told-2
+enum-told-2 c = search needs
+
+alone-requires : tie.Need-alone-requires
+alone-requires c κs = search needs
+
+enum-told-3 : tie.Need-enum-told-3
+enum-told-3 c = search needs
+
+after-comma-requires-2 : tie.Need-after-comma-requires-2
+after-comma-requires-2 c κs = search needs
+
+set-state-at-requires : tie.Need-set-state-at-requires
+set-state-at-requires c κs = search needs
+
+enum-told-4 : tie.Need-enum-told-4
+enum-told-4 c = search needs
+
+get-state-at-requires : tie.Need-get-state-at-requires
+get-state-at-requires c κs = search needs
+
+enum-told-5 : tie.Need-enum-told-5
+enum-told-5 c = search needs
+
+after-comma-requires-3 : tie.Need-after-comma-requires-3
+after-comma-requires-3 c κs = search needs
+
+sent-at-requires : tie.Need-sent-at-requires
+sent-at-requires c κs = search needs
+
+enum-told-6 : tie.Need-enum-told-6
+enum-told-6 c = search needs
+
+alone-requires-2 : tie.Need-alone-requires-2
+alone-requires-2 c κs = search needs
+
+returns : tie.Need-returns
+returns c = rw (c .before .before .enum-told .given .1) (cc)
+
+returns-2 : tie.Need-returns-2
+returns-2 c = rw (c .before .enum-told2 .given .1) (c .alone .ensures)
+
+returns-3 : tie.Need-returns-3
+returns-3 c = rw (c .before .before .enum-told3 .given .1) (cc)
+
+returns-4 : tie.Need-returns-4
+returns-4 c = rw (c .before .enum-told4 .given .1) (c .get-state-at .ensures)
+
+returns-5 : tie.Need-returns-5
+returns-5 c = rw (c .before .before .enum-told5 .given .1) (cc)
+
+returns-6 : tie.Need-returns-6
+returns-6 c = rw (c .before .enum-told6 .given .1) (c .alone2 .ensures)
+
+pub at-address-spec : {M : Type 1} → statement M
+at-address-spec =
+    tie.close
+    (tie.spec
+    enum-told
+    after-comma-requires
+    set-ir-at-requires
+    enum-told-2
+    alone-requires
+    enum-told-3
+    after-comma-requires-2
+    set-state-at-requires
+    enum-told-4
+    get-state-at-requires
+    enum-told-5
+    after-comma-requires-3
+    sent-at-requires
+    enum-told-6
+    alone-requires-2
+    returns
+    returns-2
+    returns-3
+    returns-4
+    returns-5
+    returns-6)

@@ -1,0 +1,105 @@
+use Prim.Native.Nat.{_-_, _+_, _%_, _<_}
+use mathlib.Core.Path.{_≡_, sym, _∙_}
+use native.Mathlib.Omega.{arith}
+use Rattle.code.specs.Letters.{placeOf, held}
+use Rattle.writer.proofs.Writing.{Writing, writing-start, writing-end, writing-letter, writing-spelled, at-most}
+use Rattle.writer.proofs.codetext.put_code.Statement.{statement}
+use Rattle.writer.proofs.codetext.put_code.Tie as tie
+use borrow.Author.Needs.{needs}
+
+abbrev Inv-loop : tie.InvT-loop
+Inv-loop buf₀ at form count pairs letters₀ o₀ after₀ j₀ buf letters o after j = Writing form buf₀ at count pairs buf letters o after j
+
+abbrev μ-loop : tie.MeasureT-loop
+μ-loop buf₀ at form count pairs letters₀ o₀ after₀ j₀ buf letters o after j = count - j
+
+none-requires : tie.Need-none-requires Inv-loop μ-loop
+none-requires c κs = search needs
+
+loop-holds : tie.Need-loop-holds Inv-loop μ-loop
+loop-holds c = rw (c .none .ensures) (writing-start _ _ _ _ _ (search needs) (search needs))
+
+mul-p : tie.Need-mul-p Inv-loop μ-loop
+mul-p c = search needs
+
+array-copy-out-p : tie.Need-array-copy-out-p Inv-loop μ-loop
+array-copy-out-p c = search needs
+
+place-of-requires : tie.Need-place-of-requires Inv-loop μ-loop
+place-of-requires c κs = c .before .before .loop .inv .kept .few
+
+in-use-requires : tie.Need-in-use-requires Inv-loop μ-loop
+in-use-requires c κs = search needs
+
+cast-buf : tie.Need-cast-buf Inv-loop μ-loop
+cast-buf c = search needs
+
+add-buf : tie.Need-add-buf Inv-loop μ-loop
+add-buf c = search needs
+
+slice-write-buf : tie.Need-slice-write-buf Inv-loop μ-loop
+slice-write-buf c = search needs
+
+add-o : tie.Need-add-o Inv-loop μ-loop
+add-o c = search needs
+
+add-j : tie.Need-add-j Inv-loop μ-loop
+add-j c = search needs
+
+loop-less : tie.Need-loop-less Inv-loop μ-loop
+loop-less c = search needs
+
+loop-again : tie.Need-loop-again Inv-loop μ-loop
+loop-again c =
+    let h = rw (c .before .in-use .ensures) at (c .if1 .taken) in
+    let e : 65 + c .before .before .place-of .result % 15 ≡ 65 + c .before .before .place-of .result =
+    omega (arith, at-most (c .before .before .before .before .before .before .before .before .args .form) (c .before .before .before .before .before .loop .letters .count), c .before .before .before .before .before .loop .inv .kept .few) in
+    rw e (writing-letter (c .before .before .before .before .before .loop .inv) (c .before .before .before .before .loop-test .taken) (c .before .before .place-of .ensures) h)
+
+put-spelled-requires : tie.Need-put-spelled-requires Inv-loop μ-loop
+put-spelled-requires c κs = omega (arith, c .before .before .before .before .before .before .loop .inv .room, c .before .before .before .before .before .loop-test .taken)
+
+learn-requires : tie.Need-learn-requires Inv-loop μ-loop
+learn-requires c κs = c .before .before .before .before .before .before .before .before .before .loop .inv .kept .few
+
+add-j-2 : tie.Need-add-j-2 Inv-loop μ-loop
+add-j-2 c = search needs
+
+loop-less-2 : tie.Need-loop-less-2 Inv-loop μ-loop
+loop-less-2 c = search needs
+
+loop-again-2 : tie.Need-loop-again-2 Inv-loop μ-loop
+loop-again-2 c = writing-spelled (c .before .before .before .before .before .before .before .before .before .before .loop .inv) (c .before .before .before .before .before .before .before .before .before .loop-test .taken) (c .before .before .before .before .before .before .before .place-of .ensures) (rw (c .before .before .before .before .before .before .in-use .ensures) at (c .before .before .before .before .before .if1 .left)) (c .before .before .before .put-spelled .ensures) (c .before .before .before .put-spelled .kept .0) (c .learn .ensures)
+
+same-length : tie.Need-same-length Inv-loop μ-loop
+same-length c = search needs
+
+returns : tie.Need-returns Inv-loop μ-loop
+returns c = writing-end (c .before .loop .inv) (c .loop-test .left)
+
+pub put-code-spec : {M : Type 1} → statement M
+put-code-spec =
+    tie.close
+    (tie.spec
+    Inv-loop
+    μ-loop
+    none-requires
+    loop-holds
+    mul-p
+    array-copy-out-p
+    place-of-requires
+    in-use-requires
+    cast-buf
+    add-buf
+    slice-write-buf
+    add-o
+    add-j
+    loop-less
+    loop-again
+    put-spelled-requires
+    learn-requires
+    add-j-2
+    loop-less-2
+    loop-again-2
+    same-length
+    returns)

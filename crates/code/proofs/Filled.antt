@@ -36,11 +36,14 @@ module _ {ps : List Pair} {n : ℕ} (f : Filled ps n) where
   filled-code = rw (filled-taken, ← f .rest, take-append-drop n ps)
 
 -- ---- what a code that was read holds
-pub code-pairs : {c : Code} (x : Reading) {n : ℕ} → c ≡ codeOf x → c .read ≡ Pairs n → x ≡ pairs (take n (c .pairs))
+pub code-pairs : {c : Code} (x : Reading) {n : ℕ} → c ≡ codeOf x → c .read ≡ Pairs n
+    → (x ≡ pairs (take n (c .pairs))) × (length (take n (c .pairs)) ≡ n)
 code-pairs {c} (pairs ps) {n} e r =
     let m : Pairs (length ps) ≡ Pairs n = sym (ap (λ (c : Code). c .read) e) ∙ r in
     let k : length ps ≡ n = cc in
-    ap pairs (sym (take-at ps (replicate (260 - length ps) (pair 0 0)) n k)) ∙ ap (λ (c : Code). pairs (take n (c .pairs))) (sym e)
+    let t : take n (c .pairs) ≡ ps =
+          ap (λ (c : Code). take n (c .pairs)) e ∙ take-at ps (replicate (260 - length ps) (pair 0 0)) n k in
+    (ap pairs (sym t), ap length t ∙ k)
 code-pairs {c} (fault number) {n} e r =
     let m : Fault number ≡ Pairs n = sym (ap (λ (c : Code). c .read) e) ∙ r in
     let z : _≡_ {A = ℕ} 0 1 = cc in

@@ -1,3 +1,4 @@
 pub mod Writing
 pub mod Giving
 pub mod Limits
+pub mod Sending

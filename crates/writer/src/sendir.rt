@@ -37,7 +37,7 @@ fn put_field(buf: &mut [u8], at: usize, n: u64) -> usize
 // All that stands before the code.
 fn put_head(buf: &mut [u8], port: u64, f: Fields) -> usize
     requires { ⌜ Small port f × (44 ≤ length (now buf)) ⌝ }
-    ensures { λ r. ⌜ Put (now (buf .entry)) 0 (sendirHead port f) (now (buf .exit)) r ⌝ }
+    ensures { λ r. ⌜ Put (now (buf .entry)) 0 (sendirHead port f) (now (buf .exit)) r × (r ≤ 44) ⌝ }
 {
     let a = text::write::put_word(buf, 0, b"sendir,1:");
     let b = put_field(buf, a, port);

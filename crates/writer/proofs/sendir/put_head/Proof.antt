@@ -34,7 +34,9 @@ same-length c = search needs
 
 returns : tie.Need-returns
 unfolding sendirHead
-returns c = then (then (then (then (then (c .before .before .before .before .before .before .before .before .before .before .before .before .before .before .before .before .before .before .before .before .before .before .before .put-word .ensures) (c .before .before .before .before .before .before .before .before .before .before .before .before .before .before .before .before .before .before .before .put-field .ensures .0)) (c .before .before .before .before .before .before .before .before .before .before .before .before .before .before .before .put-field2 .ensures .0)) (c .before .before .before .before .before .before .before .before .before .before .before .put-field3 .ensures .0)) (rw (c .before .before .before .before .before .before .before .capped .ensures) at (c .before .before .before .before .before .before .put-field4 .ensures .0))) (c .before .before .put-field5 .ensures .0)
+returns c =
+    let p = then (then (then (then (then (c .before .before .before .before .before .before .before .before .before .before .before .before .before .before .before .before .before .before .before .before .before .before .before .put-word .ensures) (c .before .before .before .before .before .before .before .before .before .before .before .before .before .before .before .before .before .before .before .put-field .ensures .0)) (c .before .before .before .before .before .before .before .before .before .before .before .before .before .before .before .put-field2 .ensures .0)) (c .before .before .before .before .before .before .before .before .before .before .before .put-field3 .ensures .0)) (rw (c .before .before .before .before .before .before .before .capped .ensures) at (c .before .before .before .before .before .before .put-field4 .ensures .0))) (c .before .before .put-field5 .ensures .0) in
+    (p, omega (arith, c .before .before .before .before .before .before .before .before .before .before .before .before .before .before .before .before .before .before .before .before .before .before .before .put-word .ensures .place, c .before .before .before .before .before .before .before .before .before .before .before .before .before .before .before .before .before .before .before .put-field .ensures .1, c .before .before .before .before .before .before .before .before .before .before .before .before .before .before .before .put-field2 .ensures .1, c .before .before .before .before .before .before .before .before .before .before .before .put-field3 .ensures .1, c .before .before .before .before .before .before .put-field4 .ensures .1, c .before .before .put-field5 .ensures .1))
 
 pub put-head-spec : {M : Type 1} → statement M
 put-head-spec =

@@ -42,7 +42,7 @@ code-pairs {c} (pairs ps) {n} e r =
     let m : Pairs (length ps) ≡ Pairs n = sym (ap (λ (c : Code). c .read) e) ∙ r in
     let k : length ps ≡ n = cc in
     let t : take n (c .pairs) ≡ ps =
-          ap (λ (c : Code). take n (c .pairs)) e ∙ take-at ps (replicate (260 - length ps) (pair 0 0)) n k in
+    ap (λ (c : Code). take n (c .pairs)) e ∙ take-at ps (replicate (260 - length ps) (pair 0 0)) n k in
     (ap pairs (sym t), ap length t ∙ k)
 code-pairs {c} (fault number) {n} e r =
     let m : Fault number ≡ Pairs n = sym (ap (λ (c : Code). c .read) e) ∙ r in

@@ -45,19 +45,23 @@ afterOn freq on s at = first
     ∷ (eqb (getD s at 0) 44 ⇒ offAt freq on s (at + 1))
     ∷ []) (Fault 9)
 
+-- "1 to 260 pairs"
+abbrev pub isFull : ℕ → Bool
+isFull pairs = leb 260 pairs
+
 -- a pair that a digit begins: 020 "the 261st pair is begun by a digit"
 abbrev pub counted : ℕ → List ℕ → Count → Next
 counted freq s Bad = Fault 9
 counted freq s (Good on next) = afterOn freq on s next
 
 unfoldable pub spelledAt : ℕ → ℕ → List ℕ → ℕ → Next
-spelledAt freq pairs s at = cond (leb 260 pairs) (Fault 20) (counted freq s (countAt freq s at))
+spelledAt freq pairs s at = cond (isFull pairs) (Fault 20) (counted freq s (countAt freq s at))
 
 -- a pair that a letter begins: 020 "or by a letter without a comma before it, ahead of any judging of that letter",
 -- 022 "a letter without a pair where a pair may begin"
 unfoldable pub letterAt : ℕ → ℕ → ℕ → ℕ → Next
 letterAt pairs letters b next = first
-    ((leb 260 pairs ⇒ Fault 20)
+    ((isFull pairs ⇒ Fault 20)
     ∷ (ltb (b - 65) letters ⇒ Letter (b - 65) next)
     ∷ []) (Fault 22)
 

@@ -3,7 +3,7 @@ use crate::Code;
 use text::number::Number;
 ghost use mathlib.Core.Path.{_≡_};
 ghost use Prim.Native.Nat.{_≤_};
-ghost use Rattle.code.specs.Next.{isLetter, countAt, offAt, afterOn, spelledAt, letterAt, begunAt, atEnd, nextPair};
+ghost use Rattle.code.specs.Next.{isLetter, countAt, offAt, afterOn, isFull, spelledAt, letterAt, begunAt, atEnd, nextPair};
 
 // A count and the place behind it, or none within the limits.
 pub enum Count {
@@ -82,11 +82,18 @@ fn after_on(freq: u64, on: u16, s: &[u8], at: usize) -> Next
     }
 }
 
+// Whether there is no room behind so many pairs.
+fn is_full(pairs: usize) -> bool
+    ensures { λ r. ⌜ r ≡ isFull pairs ⌝ }
+{
+    Code::MOST_PAIRS <= pairs
+}
+
 // A pair that a digit begins, behind so many.
 fn spelled_at(freq: u64, pairs: usize, s: &[u8], at: usize) -> Next
     ensures { λ r. ⌜ r ≡ spelledAt freq pairs (now (s .entry)) at ⌝ }
 {
-    if Code::MOST_PAIRS <= pairs {
+    if is_full(pairs) {
         return Next::Fault(20);
     }
     match count_at(freq, s, at) {
@@ -100,7 +107,7 @@ fn letter_at(pairs: usize, letters: usize, b: u8, next: usize) -> Next
     requires { ⌜ 65 ≤ b ⌝ }
     ensures { λ r. ⌜ r ≡ letterAt pairs letters b next ⌝ }
 {
-    if Code::MOST_PAIRS <= pairs {
+    if is_full(pairs) {
         return Next::Fault(20);
     }
     let i = (b - b'A') as usize;

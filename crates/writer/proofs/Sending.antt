@@ -49,7 +49,7 @@ module _ {before : List ℕ} {form : Form} {c : Command} {counts : List ℕ} whe
           whole-line o p =
               record {
                 answer =
-                  ap Line (p .place ∙ zero-add (length (sendirLine form c ps)))
-                  ∙ rw (le-ltb (length before) 4096 room, a, f, g, lt-ltb (c .fields .offset) (2 * length ps) o);
-                laid = rw (le-ltb (length before) 4096 room, a, f, g, lt-ltb (c .fields .offset) (2 * length ps) o) (p .laid)
+                    ap Line (p .place ∙ zero-add (length (sendirLine form c ps)))
+                    ∙ rw (le-ltb (length before) 4096 room, a, f, g, lt-ltb (c .fields .offset) (2 * length ps) o);
+                laid = rw (le-ltb (length before) 4096 room, a, f, g, lt-ltb (c .fields .offset) (2 * length ps) o) (p .laid);
               }

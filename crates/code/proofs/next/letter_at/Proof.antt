@@ -1,12 +1,16 @@
-use borrow.Author.Tests.{le-leb, lt-leb, lt-ltb, le-ltb}
+use mathlib.Core.Path.{sym, _∙_}
+use borrow.Author.Tests.{lt-ltb, le-ltb}
 use Rattle.code.specs.Next.{letterAt}
 use borrow.Author.Needs.{needs}
 use Rattle.code.proofs.next.letter_at.Statement.{statement}
 use Rattle.code.proofs.next.letter_at.Tie as tie
 
+is-full-requires : tie.Need-is-full-requires
+is-full-requires c κs = search needs
+
 returns : tie.Need-returns
 unfolding letterAt
-returns c = rw (le-leb _ _ (c .if1 .taken))
+returns c = rw (sym (c .before .is-full .ensures) ∙ c .if1 .taken)
 
 sub-i : tie.Need-sub-i
 sub-i c = search needs
@@ -16,11 +20,11 @@ cast-i c = search needs
 
 returns-2 : tie.Need-returns-2
 unfolding letterAt
-returns-2 c = rw (lt-leb _ _ (c .before .if1 .left), lt-ltb _ _ (c .if2 .taken))
+returns-2 c = rw (sym (c .before .before .is-full .ensures) ∙ c .before .if1 .left, lt-ltb _ _ (c .if2 .taken))
 
 returns-3 : tie.Need-returns-3
 unfolding letterAt
-returns-3 c = rw (lt-leb _ _ (c .before .if1 .left), le-ltb _ _ (c .if2 .left))
+returns-3 c = rw (sym (c .before .before .is-full .ensures) ∙ c .before .if1 .left, le-ltb _ _ (c .if2 .left))
 
 pub letter-at-spec : {M : Type 1} → statement M
-letter-at-spec = tie.close (tie.spec returns sub-i cast-i returns-2 returns-3)
+letter-at-spec = tie.close (tie.spec is-full-requires returns sub-i cast-i returns-2 returns-3)

@@ -1,13 +1,15 @@
 use mathlib.Core.Path.{sym, _∙_}
-use borrow.Author.Tests.{le-leb, lt-leb}
 use Rattle.code.specs.Next.{spelledAt}
 use borrow.Author.Needs.{needs}
 use Rattle.code.proofs.next.spelled_at.Statement.{statement}
 use Rattle.code.proofs.next.spelled_at.Tie as tie
 
+is-full-requires : tie.Need-is-full-requires
+is-full-requires c κs = search needs
+
 returns : tie.Need-returns
 unfolding spelledAt
-returns c = rw (le-leb _ _ (c .if1 .taken))
+returns c = rw (sym (c .before .is-full .ensures) ∙ c .if1 .taken)
 
 count-at-requires : tie.Need-count-at-requires
 count-at-requires c κs = search needs
@@ -23,16 +25,17 @@ after-on-requires c κs = search needs
 
 returns-2 : tie.Need-returns-2
 unfolding spelledAt
-returns-2 c = rw (lt-leb _ _ (c .before .before .before .if1 .left), sym (c .before .before .count-at .ensures) ∙ c .enum-told .given .1)
+returns-2 c = rw (sym (c .before .before .before .before .is-full .ensures) ∙ c .before .before .before .if1 .left, sym (c .before .before .count-at .ensures) ∙ c .enum-told .given .1)
 
 returns-3 : tie.Need-returns-3
 unfolding spelledAt
-returns-3 c = rw (lt-leb _ _ (c .before .before .before .before .before .if1 .left), sym (c .before .before .before .before .count-at .ensures) ∙ c .before .before .on .given .1) (c .after-on .ensures)
+returns-3 c = rw (sym (c .before .before .before .before .before .before .is-full .ensures) ∙ c .before .before .before .before .before .if1 .left, sym (c .before .before .before .before .count-at .ensures) ∙ c .before .before .on .given .1) (c .after-on .ensures)
 
 pub spelled-at-spec : {M : Type 1} → statement M
 spelled-at-spec =
     tie.close
     (tie.spec
+    is-full-requires
     returns
     count-at-requires
     enum-told

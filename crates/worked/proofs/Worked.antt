@@ -18,20 +18,49 @@ use Rattle.worked.specs.Table.{Holds, table}
 
 pub worked : Holds table
 unfolding number numberOf numberAt endsField afterComma fieldWithin decimal legal samePair learnt isLetter countAt offAt afterOn spelledAt letterAt begunAt nextPair readCode nameAt portAt addressAt addressFault capped sentAt addressed readRequest codeText
-worked =
-    ((refl, refl),
-    (shortest-count (omega arith) (omega arith) (omega arith),
-    (shortest-count (omega arith) (omega arith) (omega arith),
-    (shortest-count (omega arith) (omega arith) (omega arith),
-    (shortest-count (omega arith) (omega arith) (omega arith),
-    (refl,
-    (refl,
-    (refl,
-    (refl,
-    (refl,
-    (refl,
-    (refl,
-    (refl,
-    (refl,
-    (refl,
-    tt)))))))))))))))
+worked = (
+  (refl, refl),
+  (
+    shortest-count (omega arith) (omega arith) (omega arith),
+    (
+      shortest-count (omega arith) (omega arith) (omega arith),
+      (
+        shortest-count (omega arith) (omega arith) (omega arith),
+        (
+          shortest-count (omega arith) (omega arith) (omega arith),
+          (
+            refl,
+            (
+              refl,
+              (
+                refl,
+                (
+                  refl,
+                  (
+                    refl,
+                    (
+                      refl,
+                      (
+                        refl,
+                        (
+                          refl,
+                          (
+                            refl,
+                            (
+                              refl,
+                              tt,
+                            ),
+                          ),
+                        ),
+                      ),
+                    ),
+                  ),
+                ),
+              ),
+            ),
+          ),
+        ),
+      ),
+    ),
+  ),
+)

@@ -1,0 +1,227 @@
+// Runs worked values of document 01, those that are too long to be proved and its cases of a code's faults, and prints each
+// with what was expected.
+use code::CodeRead;
+use libc::STDOUT_FILENO;
+use request::Request;
+use request::fields::Fields;
+use writer::Form;
+use writer::sendir::Command;
+use writer::sendir::Written;
+
+mod fill;
+
+fn say(text: &[u8]) {
+    io::write_all(STDOUT_FILENO, text);
+}
+
+fn say_number(n: u64) {
+    io::print_decimal(STDOUT_FILENO, n);
+}
+
+fn say_verdict(ok: bool) {
+    if ok {
+        say(b": ok\n");
+    } else {
+        say(b": FAILS\n");
+    }
+}
+
+fn say_read(read: CodeRead) {
+    match read {
+        CodeRead::Fault(number) => {
+            say(b"fault ");
+            say_number(number);
+        }
+        CodeRead::Pairs(count) => {
+            say(b"pairs ");
+            say_number(count as u64);
+        }
+    }
+}
+
+fn same_read(a: CodeRead, b: CodeRead) -> bool {
+    match a {
+        CodeRead::Fault(m) => match b {
+            CodeRead::Fault(n) => m == n,
+            CodeRead::Pairs(_) => false,
+        },
+        CodeRead::Pairs(m) => match b {
+            CodeRead::Fault(_) => false,
+            CodeRead::Pairs(n) => m == n,
+        },
+    }
+}
+
+// A code's text, at 40000 Hz.
+fn code_vector(label: &[u8], text: &[u8], expected: CodeRead) {
+    let code = code::read::read_code(40000, text, 0);
+    let got = code.read;
+    say(b"code ");
+    say(label);
+    say(b": expected ");
+    say_read(expected);
+    say(b", got ");
+    say_read(got);
+    say_verdict(same_read(expected, got));
+}
+
+fn short_fault(text: &[u8], number: u64) {
+    code_vector(text, text, CodeRead::Fault(number));
+}
+
+fn short_pairs(text: &[u8], count: usize) {
+    code_vector(text, text, CodeRead::Pairs(count));
+}
+
+// Document 01's faults of a code, first from the left.
+fn faults() {
+    short_fault(b"", 9);
+    short_fault(b"A", 22);
+    short_fault(b"B", 22);
+    short_fault(b"4,5B", 22);
+    short_fault(b"4,5Z", 22);
+    short_fault(b"4A", 21);
+    short_fault(b"4,A", 21);
+    short_fault(b"4,5A4,Z", 21);
+    short_fault(b"4", 10);
+    short_fault(b"4,5,8", 10);
+    short_fault(b"4,", 9);
+    short_fault(b"4,5,", 9);
+    short_fault(b"4,5,8,", 9);
+    short_fault(b"4,5A,8,9", 9);
+    short_fault(b"4,5,A", 9);
+    short_fault(b"4,5,a", 9);
+    short_fault(b"2A", 9);
+    short_fault(b"3", 9);
+    short_fault(b"3,5", 9);
+    short_fault(b"4,3", 9);
+    short_fault(b"4,50001", 9);
+    short_fault(b"0000004,5", 9);
+}
+
+fn accepted() {
+    short_pairs(b"4,5", 1);
+    short_pairs(b"0004,000005", 1);
+    short_pairs(b"4,50000", 1);
+    short_pairs(b"4,5A8,9ABB", 6);
+    short_pairs(b"4,5,4,5,8,9,4,5,8,9,8,9", 6);
+}
+
+// The first bytes of a long text.
+fn front(text: &[u8], size: usize) -> &[u8] {
+    if size <= text.len() {
+        &text[..size]
+    } else {
+        text
+    }
+}
+
+// 260 pairs are accepted and 261 are 020, spelled or lettered; a comma behind 260 pairs and no digit is 009.
+fn many_pairs() {
+    let mut buf = [0u8; 2048];
+    fill::fill_spelled(&mut buf);
+    code_vector(b"260 spelled", front(&buf, 1039), CodeRead::Pairs(260));
+    code_vector(
+        b"260 spelled and a comma",
+        front(&buf, 1040),
+        CodeRead::Fault(9),
+    );
+    code_vector(b"261 spelled", front(&buf, 1043), CodeRead::Fault(20));
+    fill::fill_lettered(&mut buf);
+    code_vector(b"260 lettered", front(&buf, 262), CodeRead::Pairs(260));
+    code_vector(b"261 lettered", front(&buf, 263), CodeRead::Fault(20));
+}
+
+// A command of which only the counts matter, written lettered.
+fn lettered_vector(label: &[u8], counts: &[u64], expected: &[u8]) {
+    let mut buf = [0u8; 4096];
+    let fields = Fields {
+        id: 1,
+        freq: 40000,
+        repeat: 21,
+        offset: 1,
+    };
+    let command = Command {
+        m: 1,
+        port: 1,
+        fields,
+    };
+    say(b"lettered ");
+    say(label);
+    say(b": expected ");
+    say(expected);
+    say(b", got ");
+    match writer::sendir::write_sendir(&mut buf, Form::Lettered, command, counts) {
+        Written::Refused(number) => {
+            say_number(number);
+            say_verdict(false);
+        }
+        Written::Line(size) => {
+            say(front(&buf, size));
+            say_verdict(check::same(front(&buf, size), expected));
+        }
+    }
+}
+
+// Sixteen distinct pairs, each twice: the sixteenth is spelled both times.
+fn sixteen_pairs() {
+    let mut counts = [0u64; 64];
+    fill::fill_counts(&mut counts, false);
+    lettered_vector(
+        b"sixteen, then again",
+        &counts,
+        b"sendir,1:1,1,40000,20,1,4,9,5,9,6,9,7,9,8,9,9,9,10,9,11,9,12,9,13,9,14,9,15,9,16,9,17,9,18,9,19,9ABCDEFGHIJKLMNO19,9",
+    );
+    fill::fill_counts(&mut counts, true);
+    lettered_vector(
+        b"sixteen, each doubled",
+        &counts,
+        b"sendir,1:1,1,40000,20,1,4,9A5,9B6,9C7,9D8,9E9,9F10,9G11,9H12,9I13,9J14,9K15,9L16,9M17,9N18,9O19,9,19,9",
+    );
+}
+
+// A line's fault, 0 where it has none.
+fn fault_of(s: &[u8]) -> u64 {
+    match request::read::read_request(s) {
+        Request::Fault(number, _, _) => number,
+        Request::GetDevices => 0,
+        Request::GetVersion => 0,
+        Request::SetIr(_, _) => 0,
+        Request::GetIr(_) => 0,
+        Request::SetState(_, _) => 0,
+        Request::GetRelay(_) => 0,
+        Request::GetContact(_) => 0,
+        Request::SendIr(_, _) => 0,
+        Request::StopIr(_) => 0,
+    }
+}
+
+fn line_vector(label: &[u8], line: &[u8], expected: u64) {
+    let got = fault_of(line);
+    say(b"line ");
+    say(label);
+    say(b": expected fault ");
+    say_number(expected);
+    say(b", got ");
+    say_number(got);
+    say_verdict(expected == got);
+}
+
+// A line of 4,096 bytes is judged on its contents, one of 4,097 is 015.
+fn long_lines() {
+    let mut buf = [b','; 4097];
+    line_vector(b"4,096 commas", front(&buf, 4096), 1);
+    line_vector(b"4,097 commas", front(&buf, 4097), 15);
+    fill::put(&mut buf, b"getdevices");
+    line_vector(b"getdevices and commas, 4,096 bytes", front(&buf, 4096), 17);
+    line_vector(b"getdevices and commas, 4,097 bytes", front(&buf, 4097), 15);
+    line_vector(b"getdevices", front(&buf, 10), 0);
+}
+
+fn main() {
+    faults();
+    accepted();
+    many_pairs();
+    sixteen_pairs();
+    long_lines();
+}

@@ -72,6 +72,12 @@ module _ {A : Type 0} (p : A → Bool) (s : List A) (i : ℕ) (d : A) where
   pub all-done : length s ≤ i → all p (drop i s) ≡ true
   all-done h = ap (all p) (drop-of-length-le s h)
 
+-- a test that another implies
+pub all-weaker : {A : Type 0} (p q : A → Bool) → ((b : A) → p b ≡ true → q b ≡ true) → (l : List A) → all p l ≡ true → all q l ≡ true
+all-weaker p q f [] e = refl
+all-weaker p q f (b ∷ l) e =
+    and-true (q b) (all q l) (f b (and-left (p b) (all p l) e)) (all-weaker p q f l (and-right (p b) (all p l) e))
+
 -- ---- stores one after the other
 pub sets-append : {A : Type 0} (vs ws l : List A) (i : ℕ) → sets l i (vs ++ ws) ≡ sets (sets l i vs) (i + length vs) ws
 sets-append [] ws l i = rw add-zero

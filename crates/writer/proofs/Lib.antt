@@ -2,3 +2,9 @@ pub mod Writing
 pub mod Giving
 pub mod Limits
 pub mod Sending
+pub mod ReadBack
+pub mod Heads
+pub mod Bytes
+pub mod Forms
+pub mod RoundTrip
+pub mod Distinct

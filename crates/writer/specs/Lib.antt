@@ -1,3 +1,5 @@
 pub mod CodeText
 pub mod Given
 pub mod Sendir
+pub mod RoundTrip
+pub mod Distinct

@@ -1,0 +1,60 @@
+-- What the two forms write: plain text has no letter, lettered text a letter of A to O for each later occurrence of a
+-- lettered pair.
+use Prim.Native.Nat.{_≤_, _<_}
+use mathlib.Core.Path.{_≡_, refl}
+use mathlib.Core.Bool.{true, false, not}
+use mathlib.Core.List.{List, [], _∷_, _++_}
+use native.Mathlib.Omega.{arith}
+use borrow.Author.Tests.{lt-ltb, ltb-true, ltb-false}
+use lib.Dec.{ltb}
+use lib.ListN.{length, getD}
+use Rattle.laws.specs.Lists.{all}
+use Rattle.laws.proofs.Choice.{by-test, and-true, not-both}
+use Rattle.code.specs.declared.Pair.{Pair}
+use Rattle.code.specs.declared.next.After.the-variants.{Nothing}
+use Rattle.code.specs.Letters.{placeOf, learnt, lettersOf}
+use Rattle.code.specs.Next.{isLetter}
+use Rattle.code.proofs.Lettering.{learnt-few}
+use Rattle.writer.specs.declared.Form.{Form}
+use Rattle.writer.specs.declared.Form.the-variants.{Plain, Lettered}
+use Rattle.writer.specs.CodeText.{Item, itemOf, items, codeText, inUse}
+use Rattle.writer.proofs.Writing.{item-letter, item-spelled, at-most}
+use Rattle.writer.proofs.ReadBack.{digit-no-letter}
+use Rattle.writer.proofs.Bytes.{lettersAre, text-all}
+
+-- ---- plain text
+all-spelled : (t ps : List Pair) → all (lettersAre (λ i. false)) (items Plain t ps) ≡ true
+all-spelled t [] = refl
+all-spelled t (p ∷ ps) = all-spelled (learnt t p) ps
+
+pub plain-no-letter : (ps : List Pair) → all (λ b. not (isLetter b)) (codeText Plain ps) ≡ true
+unfolding codeText isLetter
+plain-no-letter ps =
+    text-all (λ b. not (isLetter b)) (λ b e. rw (digit-no-letter b e)) refl (λ i. false) (λ i z. not-both z refl) Nothing
+    (items Plain [] ps) (all-spelled [] ps)
+
+-- ---- lettered text
+-- each pair is written as those before it say: as its letter where it has one by then, else spelled
+item-from : (form : Form) (t done more : List Pair) (p : Pair) (d : Item)
+    → getD (items form t (done ++ p ∷ more)) (length done) d ≡ itemOf form (lettersOf t done) p
+item-from form t [] more p d = refl
+item-from form t (q ∷ done) more p d = item-from form (learnt t q) done more p d
+
+pub lettered-item : (done more : List Pair) (p : Pair) (d : Item)
+    → getD (items Lettered [] (done ++ p ∷ more)) (length done) d ≡ itemOf Lettered (lettersOf [] done) p
+lettered-item done more p d = item-from Lettered [] done more p d
+
+-- each letter is one of A to O
+low-from : (form : Form) (t ps : List Pair) → length t ≤ 15 → all (lettersAre (λ i. ltb i 15)) (items form t ps) ≡ true
+low-from form t [] h = refl
+low-from form t (p ∷ ps) h =
+    let more = low-from form (learnt t p) ps (learnt-few t p h) in
+    by-test (ltb (placeOf p t) (inUse form (length t)))
+    (λ e.
+    let l = ltb-true (placeOf p t) (inUse form (length t)) e in
+    let low : placeOf p t < 15 = omega (arith, at-most form (length t)) in
+    rw (item-letter form t p l) (and-true (ltb (placeOf p t) 15) _ (lt-ltb (placeOf p t) 15 low) more))
+    (λ e. rw (item-spelled form t p (ltb-false (placeOf p t) _ e)) more)
+
+pub letters-low : (form : Form) (ps : List Pair) → all (lettersAre (λ i. ltb i 15)) (items form [] ps) ≡ true
+letters-low form ps = low-from form [] ps (omega arith)

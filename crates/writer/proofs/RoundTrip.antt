@@ -1,0 +1,104 @@
+-- Every line that the writer gives is read as the command and the pairs that were given.
+use Prim.Native.Nat.{ℕ, _+_, _%_, _≤_}
+use mathlib.Core.Path.{_≡_, refl, _∙_}
+use mathlib.Core.Bool.{true, not}
+use mathlib.Core.List.{List, [], _∷_}
+use native.Mathlib.Omega.{arith}
+use borrow.Author.Tests.{not-false, ltb-true, le-ltb, le-leb}
+use lib.Dec.{ltb, eqb}
+use lib.ListN.{length}
+use Rattle.laws.specs.Lists.{all}
+use Rattle.laws.proofs.Choice.{cond-case}
+use Rattle.text.specs.Number.{isDigit}
+use Rattle.text.proofs.Reading.{digit-range}
+use Rattle.code.specs.declared.Pair.{Pair}
+use Rattle.code.specs.declared.next.After.the-variants.{Nothing}
+use Rattle.code.specs.Limits.{legal, offsetWithin}
+use Rattle.code.specs.Read.{Reading, pairs, fault}
+use Rattle.code.proofs.Accepted.{Accepted}
+use Rattle.request.specs.Request.{isPrintable}
+use Rattle.writer.specs.declared.Form.{Form}
+use Rattle.writer.specs.declared.sendir.Command.{Command}
+use Rattle.writer.specs.CodeText.{items, codeText}
+use Rattle.writer.specs.Given.{pairsOf, countsGiven, addressWithin, fieldsWithin}
+use Rattle.writer.specs.Sendir.{sendirLine, Outcome, refused, line, codeOutcome, outcome}
+use Rattle.writer.specs.RoundTrip.{ReadsBack}
+use Rattle.writer.proofs.Limits.{AddressIn, FieldsIn, address-in, fields-in, small, given-accepted}
+use Rattle.writer.proofs.ReadBack.{code-back}
+use Rattle.writer.proofs.Heads.{fieldsIn, line-is, head-back}
+use Rattle.writer.proofs.Bytes.{listed-all, text-all, head-few, code-few}
+use Rattle.writer.proofs.Forms.{letters-low}
+
+-- ---- what is written was taken
+record Taken (form : Form) (c : Command) (counts text : List ℕ) : Type 0 where
+  address : AddressIn (c .m) (c .port)
+  fields : FieldsIn (c .fields)
+  given : Accepted (c .fields .freq) (pairsOf counts)
+  written : text ≡ sendirLine form c (pairsOf counts)
+
+given-pairs : (freq : ℕ) (counts : List ℕ) (ps : List Pair) → countsGiven freq counts ≡ pairs ps → ps ≡ pairsOf counts
+unfolding countsGiven
+given-pairs freq counts ps =
+    let P : Reading → Type 0 = λ r. r ≡ pairs ps → ps ≡ pairsOf counts in
+    cond-case P (ltb (length counts) 2) _ _ (λ _ z. cc) λ _.
+    cond-case P (ltb 520 (length counts)) _ _ (λ _ z. cc) λ _.
+    cond-case P (not (eqb (length counts % 2) 0)) _ _ (λ _ z. cc) λ _.
+    cond-case P (not (all (legal freq) counts)) _ _ (λ _ z. cc) λ _ z. cc
+
+no-line : {A : Type 0} {number : ℕ} {text : List ℕ} → refused number ≡ line text → A
+no-line e = let z : _≡_ {A = ℕ} 0 1 = cc in absurd (omega arith)
+
+taken : (room : ℕ) (form : Form) (c : Command) (counts text : List ℕ) → outcome room form c counts ≡ line text → Taken form c counts text
+unfolding outcome
+taken room form c counts text =
+    let P : Outcome → Type 0 = λ o. o ≡ line text → Taken form c counts text in
+    cond-case P (ltb room 4096) _ _ (λ _ z. no-line z) λ _.
+    cond-case P (not (addressWithin (c .m) (c .port))) _ _ (λ _ z. no-line z) λ a.
+    cond-case P (not (fieldsWithin (c .fields))) _ _ (λ _ z. no-line z) λ b.
+    go (not-false _ a) (not-false _ b) (countsGiven (c .fields .freq) counts) refl
+  where
+    go : addressWithin (c .m) (c .port) ≡ true → fieldsWithin (c .fields) ≡ true → (r : Reading) → countsGiven (c .fields .freq) counts ≡ r
+        → codeOutcome form c r ≡ line text → Taken form c counts text
+    go a b (fault number) e = no-line
+    go a b (pairs ps) e =
+        let same = given-pairs (c .fields .freq) counts ps e in
+        cond-case (λ (o : Outcome). o ≡ line text → Taken form c counts text) (offsetWithin (c .fields .offset) (length ps))
+        (line (sendirLine form c ps)) _
+        (λ _ z.
+        record {
+          address = address-in a;
+          fields = fields-in b;
+          given = rw (← same) (given-accepted counts e);
+          written = rw (← same) (cc);
+        })
+        (λ _ z. no-line z)
+
+-- ---- the bytes of a line are printable, and few
+digit-printable : (b : ℕ) → isDigit b ≡ true → isPrintable b ≡ true
+digit-printable b e =
+    let r = digit-range b e in
+    rw (le-ltb b 32 (omega (arith, r .0)), le-leb b 126 (omega (arith, r .1)))
+
+letter-printable : (i : ℕ) → ltb i 15 ≡ true → isPrintable (65 + i) ≡ true
+letter-printable i e = rw (le-ltb (65 + i) 32 (omega arith), le-leb (65 + i) 126 (omega (arith, ltb-true i 15 e)))
+
+code-printable : (form : Form) (ps : List Pair) → all isPrintable (codeText form ps) ≡ true
+unfolding codeText
+code-printable form ps =
+    text-all isPrintable digit-printable refl (λ i. ltb i 15) letter-printable Nothing (items form [] ps) (letters-low form ps)
+
+code-fits : (form : Form) {freq : ℕ} {ps : List Pair} → Accepted freq ps → length (codeText form ps) ≤ 3640
+unfolding codeText
+code-fits form {freq} {ps} a = omega (arith, code-few form freq [] Nothing ps (a .allowed), a .most)
+
+pub round-trip : (room : ℕ) (form : Form) (c : Command) (counts text : List ℕ) → outcome room form c counts ≡ line text
+    → ReadsBack c (pairsOf counts) text
+round-trip room form c counts text e =
+    let t = taken room form c counts text e in
+    let code = codeText form (pairsOf counts) in
+    let f = t .written ∙ line-is (c .port) (c .fields) code in
+    let few : length text ≤ 4096 = rw f (omega (arith, head-few code (small (t .address) (t .fields)), code-fits form (t .given))) in
+    let fine : all isPrintable text ≡ true =
+    rw f (listed-all isPrintable digit-printable refl (c .port ∷ fieldsIn (c .fields)) code (code-printable form (pairsOf counts))) in
+    let h = head-back text code (t .address) (t .fields) few fine f in
+    record { place = h .place; request = h .request; code = code-back form text (h .place) (t .given) (h .behind) }

@@ -95,6 +95,16 @@ pub decimal-few : (n : ℕ) → n < 1000000 → length (decimal n) ≤ 6
 unfolding decimal
 decimal-few n h = fine 20 n .few 5 h
 
+-- no decimal has more than twenty
+pub decimal-most : (n : ℕ) → length (decimal n) ≤ 20
+unfolding decimal
+decimal-most n = go 20 n
+  where
+    go : (k n : ℕ) → length (decimalIn k n) ≤ k
+    go zero n = omega arith
+    go (suc k) n =
+        by-test (ltb n 10) (λ e. rw e (omega arith)) (λ e. rw (e, length-append) (omega (arith, go k (n / 10))))
+
 pub decimal-some : (n : ℕ) → 1 ≤ length (decimal n)
 unfolding decimal
 decimal-some n = by-test (ltb n 10) (λ e. rw e (omega arith)) (λ e. rw (e, length-append) (omega arith))

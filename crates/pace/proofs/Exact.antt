@@ -1,0 +1,102 @@
+-- What the times mean: the moment is the first, waits add up, and the copies begun and the place are those of the way.
+use Prim.Native.Nat.{ℕ, suc, _+_, _-_, _*_, _≤_, _<_}
+use mathlib.Core.Path.{_≡_, ap, _∙_}
+use mathlib.Core.Logic.{_⊎_, inl, inr}
+use native.Mathlib.Nat.{add-mul, suc-mul, mul-assoc, div-lt-iff-lt-mul, le-div-iff-mul-le, lt-div-mul-add, mul-add-div-right, mul-div-cancel, mod-lt}
+use native.Mathlib.Omega.{arith}
+use borrow.Author.Tests.{le-leb, lt-leb, ltb-true, ltb-false}
+use lib.Dec.{ltb}
+use Rattle.laws.proofs.Choice.{by-test, cond-case}
+use Rattle.pace.specs.declared.Pace.{Pace}
+use Rattle.pace.specs.declared.Passed.the-variants.{Complete}
+use Rattle.pace.specs.Pace.{SoundPace, inTicks, micros, endOf, begun, placeOf, movedTo, firstMicro, passed}
+use Rattle.pace.proofs.Bounds.{begun-first, finished-within, unfinished-below}
+
+-- ---- the moment of completion
+module _ (left freq : ℕ) (f : 1 ≤ freq) where
+  reached : left ≤ firstMicro left freq * freq
+  unfolding firstMicro
+  reached = omega (arith, lt-div-mul-add {a = left + (freq - 1)} {b = freq} f)
+
+  least : (m : ℕ) → left ≤ m * freq → firstMicro left freq ≤ m
+  unfolding firstMicro
+  least m h =
+      let k = div-lt-iff-lt-mul {k = freq} {x = left + (freq - 1)} {y = m + 1} f .1 (omega (arith, add-mul m 1 freq)) in
+      omega arith
+
+  some : 1 ≤ left → 1 ≤ firstMicro left freq
+  unfolding firstMicro
+  some h = le-div-iff-mul-le {k = freq} {x = 1} {y = left + (freq - 1)} f .1 (omega arith)
+
+  -- by then so many ticks have passed, and at no earlier whole microsecond
+  pub first-micro : (left ≤ firstMicro left freq * freq) × ((m : ℕ) → left ≤ m * freq → firstMicro left freq ≤ m)
+  first-micro = (reached, least)
+
+-- a wait that completes holds the moment, and a pace that is under way is not complete at once
+pub moment-within : {p : Pace} {freq wait : ℕ} → SoundPace p → 1 ≤ freq → endOf p ≤ p .at .0 + wait * freq
+    → (1 ≤ firstMicro (endOf p - p .at .0) freq) × (firstMicro (endOf p - p .at .0) freq ≤ wait)
+moment-within s f h = (some _ _ f (omega (arith, s .under-way)), least _ _ f _ (omega arith))
+
+-- ---- one wait after the other
+module _ (p : Pace) (freq a b : ℕ) where
+  sum-way : p .at .0 + a * freq + b * freq ≡ p .at .0 + (a + b) * freq
+  sum-way = omega (arith, add-mul a b freq)
+
+  -- two waits that do not reach the end are one
+  pub wait-wait : p .at .0 + (a + b) * freq < endOf p
+      → passed (movedTo p (p .at .0 + a * freq)) freq b ≡ passed p freq (a + b)
+  unfolding passed endOf
+  wait-wait h = rw (sum-way, lt-leb _ _ h)
+
+-- after a wait that does not complete, the moment comes that much sooner
+pub moment-wait : (p : Pace) (freq a : ℕ) → 1 ≤ freq → p .at .0 + a * freq < endOf p
+    → firstMicro (endOf p - p .at .0) freq ≡ a + firstMicro (endOf p - (p .at .0 + a * freq)) freq
+unfolding firstMicro
+moment-wait p freq a f h =
+    let rest = endOf p - (p .at .0 + a * freq) + (freq - 1) in
+    let e : endOf p - p .at .0 + (freq - 1) ≡ a * freq + rest = omega arith in
+    rw e (mul-add-div-right f a rest)
+
+-- so the second of two waits completes at the moment at which one of both does
+pub wait-complete : (p : Pace) (freq a b : ℕ) → 1 ≤ freq → p .at .0 + a * freq < endOf p → endOf p ≤ p .at .0 + (a + b) * freq
+    → let m = firstMicro (endOf p - (p .at .0 + a * freq)) freq in
+    (passed (movedTo p (p .at .0 + a * freq)) freq b ≡ Complete (micros m)) × (passed p freq (a + b) ≡ Complete (micros (a + m)))
+unfolding passed endOf
+wait-complete p freq a b f h k =
+    (rw (sum-way p freq a b, le-leb _ _ k), rw (le-leb _ _ k, moment-wait p freq a f h))
+
+-- ---- the copies begun
+begun-done : (p : Pace) → (inTicks (p .lead .0 + (begun p - 1) * p .tail .0) ≤ p .at .0) ⊎ (begun p ≡ 1)
+begun-done p =
+    by-test (ltb (p .at .0) (inTicks (p .lead .0)))
+    (λ t. inr (begun-first p (omega (arith, ltb-true))))
+    (λ t. inl (omega (arith, ltb-false, finished-within p, mul-assoc (begun p - 1) (p .tail .0) 1000000)))
+
+begun-below : {p : Pace} → SoundPace p → p .at .0 < inTicks (p .lead .0 + begun p * p .tail .0)
+unfolding begun
+begun-below {p} s =
+    let e : begun p ≡ suc (begun p - 1) = omega arith in
+    let f : begun p * p .tail .0 ≡ (begun p - 1) * p .tail .0 + p .tail .0 = ap (λ n. n * p .tail .0) e ∙ suc-mul _ _ in
+    omega (arith, unfinished-below s, mul-assoc (begun p - 1) (p .tail .0) 1000000)
+
+-- those before the one in hand are finished, and that one is not
+pub begun-is : {p : Pace} → SoundPace p
+    → ((inTicks (p .lead .0 + (begun p - 1) * p .tail .0) ≤ p .at .0) ⊎ (begun p ≡ 1))
+    × (p .at .0 < inTicks (p .lead .0 + begun p * p .tail .0))
+begun-is s = (begun-done _, begun-below s)
+
+-- at an exact boundary the next has begun
+pub begun-boundary : {p : Pace} → SoundPace p → (n : ℕ) → p .at .0 ≡ inTicks (p .lead .0 + n * p .tail .0) → begun p ≡ suc n
+unfolding begun
+begun-boundary {p} s n h =
+    let e : p .at .0 - inTicks (p .lead .0) ≡ n * inTicks (p .tail .0) = omega (arith, mul-assoc n (p .tail .0) 1000000) in
+    rw e (ap suc (mul-div-cancel n {n = inTicks (p .tail .0)} (omega (arith, s .tail-low))))
+
+-- ---- the place in the pairs
+-- it lies within them
+pub place-below : {p : Pace} → SoundPace p → placeOf p < inTicks (p .lead .0 + p .tail .0)
+unfolding placeOf
+place-below {p} s =
+    let h = mod-lt (p .at .0 - inTicks (p .lead .0)) {m = inTicks (p .tail .0)} (omega (arith, s .tail-low)) in
+    cond-case (λ n. n < inTicks (p .lead .0 + p .tail .0)) (ltb (p .at .0) (inTicks (p .lead .0))) _ _
+    (λ t. omega (arith, ltb-true, s .tail-low)) (λ t. omega arith)

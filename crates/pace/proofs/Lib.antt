@@ -1,0 +1,4 @@
+pub mod Bounds
+pub mod Summing
+pub mod Keeps
+pub mod Exact

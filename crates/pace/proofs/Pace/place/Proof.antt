@@ -1,0 +1,30 @@
+use native.Mathlib.Omega.{arith}
+use borrow.Author.Tests.{lt-ltb, le-ltb}
+use Rattle.pace.specs.Pace.{placeOf}
+use Rattle.pace.proofs.Bounds.{within-high}
+use borrow.Author.Needs.{needs}
+use Rattle.pace.proofs.Pace.place.Statement.{statement}
+use Rattle.pace.proofs.Pace.place.Tie as tie
+
+mul-lead : tie.Need-mul-lead
+mul-lead c = search needs
+
+returns : tie.Need-returns
+unfolding placeOf
+returns c = rw (lt-ltb _ _ (c .before .if1 .taken))
+
+mul-t5 : tie.Need-mul-t5
+mul-t5 c = search needs
+
+rem-t6 : tie.Need-rem-t6
+rem-t6 c = search needs
+
+add-t7 : tie.Need-add-t7
+add-t7 c = omega (arith, within-high (c .before .before .before .before .before .pre))
+
+returns-2 : tie.Need-returns-2
+unfolding placeOf
+returns-2 c = rw (le-ltb _ _ (c .before .before .if1 .left))
+
+pub place-spec : {M : Type 1} → statement M
+place-spec = tie.close (tie.spec mul-lead returns mul-t5 rem-t6 add-t7 returns-2)

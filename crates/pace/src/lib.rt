@@ -1,0 +1,133 @@
+// Time on a connector: how far a transmission is and when it ends, exactly. A tick is a millionth of a carrier period: in one
+// microsecond as many ticks pass as the frequency has hertz, so that nothing is ever rounded.
+use code::Code;
+use code::Pair;
+ghost use mathlib.Core.Path.{_≡_};
+ghost use Prim.Native.Nat.{_≤_};
+ghost use lib.ListN.{take, drop};
+ghost use Rattle.pace.specs.Pace.{SoundPace, periodsOf, periods, micros, ticks, started, endOf, begun, renewed, placeOf, movedTo, passed};
+
+// A number of carrier periods.
+pub struct Periods(pub u64);
+
+// A number of microseconds.
+pub struct Micros(pub u64);
+
+// A number of millionths of a carrier period.
+pub struct Ticks(pub u64);
+
+// A transmission of a number of copies in all: the pairs before the offset, and then, for each copy, those from it on. How far it
+// is counts from its start, less the copies that a renewal has taken off.
+pub struct Pace {
+    pub lead: Periods,
+    pub tail: Periods,
+    pub copies: u64,
+    pub at: Ticks,
+}
+
+// What a wait makes of a transmission: it runs on, or it is complete at a moment from the wait's start.
+pub enum Passed {
+    Running(Pace),
+    Complete(Micros),
+}
+
+// What the pairs from one to before another last.
+pub fn periods_of(pairs: [Pair; Code::MOST_PAIRS], from: usize, to: usize) -> Periods
+    requires { ⌜ (from ≤ to) × (to ≤ 260) ⌝ }
+    ensures { λ r. ⌜ r ≡ periods (periodsOf (drop from (take to pairs))) ⌝ }
+{
+    let mut sum: u64 = 0;
+    let mut i = from;
+    while i < to {
+        let p = pairs[i];
+        sum += p.on as u64;
+        sum += p.off as u64;
+        i += 1;
+    }
+    Periods(sum)
+}
+
+impl Pace {
+    pub fn started(lead: Periods, tail: Periods, repeat: u64) -> Self
+        ensures { λ r. ⌜ r ≡ started lead tail repeat ⌝ }
+    {
+        let at = Ticks(0);
+        Pace {
+            lead,
+            tail,
+            copies: repeat,
+            at,
+        }
+    }
+
+    // Where it is complete.
+    pub fn end(self) -> Ticks
+        requires { ⌜ SoundPace self ⌝ }
+        ensures { λ r. ⌜ r ≡ ticks (endOf self) ⌝ }
+    {
+        Ticks((self.lead.0 + self.copies * self.tail.0) * 1000000)
+    }
+
+    // The copies that have begun; at an exact boundary the next has.
+    pub fn begun(self) -> u64
+        requires { ⌜ SoundPace self ⌝ }
+        ensures { λ r. ⌜ r ≡ begun self ⌝ }
+    {
+        let lead = self.lead.0 * 1000000;
+        if self.at.0 < lead {
+            return 1;
+        }
+        1 + (self.at.0 - lead) / (self.tail.0 * 1000000)
+    }
+
+    // The copies begun and so many more; those that are finished are taken off both sides.
+    pub fn renewed(self, repeat: u64) -> Pace
+        requires { ⌜ SoundPace self × (repeat ≤ 20) ⌝ }
+        ensures { λ r. ⌜ r ≡ renewed self repeat ⌝ }
+    {
+        let finished = self.begun() - 1;
+        let at = Ticks(self.at.0 - finished * (self.tail.0 * 1000000));
+        let lead = self.lead;
+        let tail = self.tail;
+        Pace {
+            lead,
+            tail,
+            copies: 1 + repeat,
+            at,
+        }
+    }
+
+    // The place in the pairs, in ticks.
+    pub fn place(self) -> Ticks
+        requires { ⌜ SoundPace self ⌝ }
+        ensures { λ r. ⌜ r ≡ ticks (placeOf self) ⌝ }
+    {
+        let lead = self.lead.0 * 1000000;
+        if self.at.0 < lead {
+            return self.at;
+        }
+        Ticks(lead + (self.at.0 - lead) % (self.tail.0 * 1000000))
+    }
+
+    fn moved(self, at: Ticks) -> Pace
+        ensures { λ r. ⌜ r ≡ movedTo self (at .0) ⌝ }
+    {
+        let mut next = self;
+        next.at = at;
+        next
+    }
+
+    // A wait at a frequency.
+    pub fn passed(self, freq: u64, wait: Micros) -> Passed
+        requires { ⌜ SoundPace self × (1 ≤ freq) × (freq ≤ 500000) × (wait .0 ≤ 1000000000) ⌝ }
+        ensures { λ r. ⌜ r ≡ passed self freq (wait .0) ⌝ }
+    {
+        let end = self.end();
+        let after = self.at.0 + wait.0 * freq;
+        if end.0 <= after {
+            let left = end.0 - self.at.0;
+            return Passed::Complete(Micros((left + (freq - 1)) / freq));
+        }
+        Passed::Running(self.moved(Ticks(after)))
+    }
+}

@@ -1,0 +1,39 @@
+use native.Mathlib.Omega.{arith}
+use Rattle.laws.proofs.Put.{then}
+use Rattle.text.proofs.Decimals.{decimal-most}
+use borrow.Author.Needs.{needs}
+use Rattle.reply.proofs.put_last.Statement.{statement}
+use Rattle.reply.proofs.put_last.Tie as tie
+
+slice-aggregate-put-word : tie.Need-slice-aggregate-put-word
+slice-aggregate-put-word c = search needs
+
+put-word-requires : tie.Need-put-word-requires
+put-word-requires c κs = search needs
+
+put-number-requires : tie.Need-put-number-requires
+put-number-requires c κs = omega (arith, decimal-most (c .before .before .before .before .before .before .before .args .n))
+
+slice-aggregate-put-word-2 : tie.Need-slice-aggregate-put-word-2
+slice-aggregate-put-word-2 c = search needs
+
+put-word-requires-2 : tie.Need-put-word-requires-2
+put-word-requires-2 c κs = omega (arith, decimal-most (c .before .before .before .before .before .before .before .before .before .before .before .before .args .n))
+
+same-length : tie.Need-same-length
+same-length c = search needs
+
+returns : tie.Need-returns
+returns c = then (then (c .before .before .before .before .before .before .before .before .before .before .before .put-word .ensures) (c .before .before .before .before .before .before .before .put-number .ensures)) (c .before .before .put-word2 .ensures)
+
+pub put-last-spec : {M : Type 1} → statement M
+put-last-spec =
+    tie.close
+    (tie.spec
+    slice-aggregate-put-word
+    put-word-requires
+    put-number-requires
+    slice-aggregate-put-word-2
+    put-word-requires-2
+    same-length
+    returns)

@@ -31,9 +31,10 @@ use Rattle.request.specs.declared.Request.the-variants.{GetDevices, GetV
 use Rattle.request.specs.Name.{getdevices, getversion, nameOf, nameAt}
 use Rattle.request.specs.Address.{hasModule, addressAt, addressFault}
 use Rattle.request.specs.Mode.{modeAt, mayHave}
-use Rattle.request.specs.Fields.{capped, need, sentAt}
+use Rattle.request.specs.Fields.{need, sentAt}
 use Rattle.request.specs.Request.{isPrintable, fault, alone, modeRead, setIrAt, stateRead, setStateAt, getStateAt, atAddress, addressRead, addressed, named, readRequest}
 use Rattle.request.specs.Accepted.{PortWithin, SentWithin, Within}
+use Rattle.request.proofs.Capping.{capped-high, capped-low}
 
 -- what holds of a bad field, and of each value within the limits, holds of a field that is read
 field-case : (P : Field → Type 0) (least most : ℕ) (s : List ℕ) (at : ℕ) → P Bad
@@ -55,12 +56,6 @@ need-within : (least most number : ℕ) (s : List ℕ) (at : ℕ) (go : ℕ → 
     → ((v end : ℕ) → least ≤ v → v ≤ most → SentWithin (go v end)) → SentWithin (need (fieldWithin least most s at) number go)
 need-within least most number s at go good = field-case (λ (f : Field). SentWithin (need f number go)) least most s at tt good
 
-capped-within : (repeat : ℕ) → 1 ≤ repeat → (1 ≤ capped repeat) × (capped repeat ≤ 20)
-unfolding capped
-capped-within repeat h =
-    cond-case (λ (r : ℕ). (1 ≤ r) × (r ≤ 20)) (ltb 20 repeat) 20 repeat
-    (λ e. (omega arith, omega arith)) (λ e. (h, ltb-false 20 repeat e))
-
 sent-within : (s : List ℕ) (at : ℕ) → SentWithin (sentAt s at)
 unfolding sentAt
 sent-within s at =
@@ -73,8 +68,8 @@ sent-within s at =
       id-most = id-most;
       freq-least = freq-least;
       freq-most = freq-most;
-      repeat-least = capped-within repeat repeat-least .0;
-      repeat-most = capped-within repeat repeat-least .1;
+      repeat-least = capped-low repeat repeat-least;
+      repeat-most = capped-high repeat;
       offset-least = offset-least;
       offset-most = offset-most;
       offset-odd = omega (arith, eqb-false (offset % 2) 0 e);

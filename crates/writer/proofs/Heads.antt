@@ -26,7 +26,8 @@ use Rattle.request.specs.Address.{portAt, addressAt, addressFault}
 use Rattle.request.specs.Fields.{capped, fieldsOf, sentAt}
 use Rattle.request.specs.Request.{isPrintable, addressed, readRequest}
 use Rattle.writer.specs.Sendir.{sendirHead}
-use Rattle.writer.proofs.Limits.{AddressIn, FieldsIn, capped-low, capped-high, small}
+use Rattle.request.proofs.Capping.{capped-low, capped-high}
+use Rattle.writer.proofs.Limits.{AddressIn, FieldsIn, small}
 
 -- numbers with a comma behind each, and what stands behind them
 abbrev pub listed : List ℕ → List ℕ → List ℕ

@@ -8,13 +8,13 @@ use borrow.Author.Tests.{ltb-true, ltb-false, leb-true, eqb-true, eqb-false, not
 use lib.Dec.{ltb, leb, eqb}
 use lib.ListN.{length}
 use Rattle.laws.specs.Lists.{all}
-use Rattle.laws.proofs.Choice.{cond-case, by-test, guard, and-left, and-right, and-true}
+use Rattle.laws.proofs.Choice.{cond-case, guard, and-left, and-right, and-true}
 use Rattle.code.specs.declared.Pair.{Pair}
 use Rattle.code.specs.Limits.{legal, legalPair, mostId, leastFreq, mostFreq, mostRepeat, mostOffset}
 use Rattle.code.specs.Read.{Reading, pairs, fault}
 use Rattle.code.proofs.Accepted.{Accepted}
 use Rattle.request.specs.declared.fields.Fields.{Fields}
-use Rattle.request.specs.Fields.{capped}
+use Rattle.request.proofs.Capping.{capped-high}
 use Rattle.writer.specs.Given.{pairsOf, countsGiven, addressWithin, fieldsWithin}
 use Rattle.writer.specs.Sendir.{Small}
 
@@ -65,14 +65,6 @@ fields-in {f} e =
   where
     odd : (n : ℕ) → (n % 2 ≡ 0 → ⊥) → n % 2 ≡ 1
     odd n k = omega arith
-
-pub capped-high : (n : ℕ) → capped n ≤ 20
-unfolding capped
-capped-high n = by-test (ltb 20 n) (λ e. rw e (omega arith)) (λ e. rw e (ltb-false 20 n e))
-
-pub capped-low : (n : ℕ) → 1 ≤ n → 1 ≤ capped n
-unfolding capped
-capped-low n h = by-test (ltb 20 n) (λ e. rw e (omega arith)) (λ e. rw e h)
 
 pub small : {m port : ℕ} {f : Fields} → AddressIn m port → FieldsIn f → Small port f
 small {m} {port} {f} a b =

@@ -1,0 +1,77 @@
+// What is to be written, put behind what there is as far as there is room. A turn begins with room for all that it can say.
+use hub::Owner;
+
+pub fn put_byte(out: &mut [u8], used: usize, b: u8) -> usize {
+    if used < out.len() {
+        out[used] = b;
+        used + 1
+    } else {
+        used
+    }
+}
+
+pub fn put_decimal(out: &mut [u8], used: usize, n: u64) -> usize {
+    let mut digits = [0u8; 20];
+    let size = io::decimal(n, &mut digits);
+    let mut o = used;
+    let mut i = 0;
+    while i < 20 {
+        if size <= i {
+            return o;
+        }
+        o = put_byte(out, o, digits[i]);
+        i += 1;
+    }
+    o
+}
+
+// A connection's number, or - for nobody, and a space.
+fn put_who(out: &mut [u8], used: usize, who: Owner) -> usize {
+    match who {
+        Owner::Nobody => {
+            let o = put_byte(out, used, b'-');
+            put_byte(out, o, b' ')
+        }
+        Owner::Connection(number) => {
+            let o = put_decimal(out, used, number);
+            put_byte(out, o, b' ')
+        }
+    }
+}
+
+// A byte of a reply, with LF for its CR, and in front of the first byte for whom it is.
+fn put_reply_byte(out: &mut [u8], used: usize, who: Owner, begins: bool, b: u8) -> usize {
+    let shown = if b == b'\r' { b'\n' } else { b };
+    if begins {
+        let o = put_who(out, used, who);
+        return put_byte(out, o, shown);
+    }
+    put_byte(out, used, shown)
+}
+
+// The first size bytes of replies, each of which ends with CR, as lines for somebody.
+pub fn put_replies(out: &mut [u8], used: usize, who: Owner, text: &[u8], size: usize) -> usize {
+    let mut o = used;
+    let mut begins = true;
+    let mut i = 0;
+    while i < text.len() {
+        if size <= i {
+            return o;
+        }
+        let b = text[i];
+        o = put_reply_byte(out, o, who, begins, b);
+        begins = b == b'\r';
+        i += 1;
+    }
+    o
+}
+
+// A call's refusal, or a line of another form where the number is 0.
+pub fn put_refusal(out: &mut [u8], used: usize, number: u64) -> usize {
+    let o = put_byte(out, used, b'!');
+    if number == 0 {
+        return put_byte(out, o, b'\n');
+    }
+    let p = put_decimal(out, o, number);
+    put_byte(out, p, b'\n')
+}

@@ -1,0 +1,42 @@
+use mathlib.Core.Path.{refl}
+use native.Mathlib.Nat.{zero-add}
+use borrow.Author.Needs.{needs}
+use Rattle.hub.proofs.line.written.Statement.{statement}
+use Rattle.hub.proofs.line.written.Tie as tie
+
+enum-told : tie.Need-enum-told
+enum-told c = search needs
+
+enum-told-2 : tie.Need-enum-told-2
+enum-told-2 c = search needs
+
+enum-known-answer : tie.Need-enum-known-answer
+enum-known-answer c = search needs
+
+put-reply-requires : tie.Need-put-reply-requires
+put-reply-requires c κs = search needs
+
+returns : tie.Need-returns
+returns c = rw (c .enum-told .given .1) (record { result = refl; laid = refl })
+
+returns-2 : tie.Need-returns-2
+returns-2 c = rw (c .enum-told2 .given .1) (record { result = refl; laid = refl })
+
+same-length : tie.Need-same-length
+same-length c = search needs
+
+returns-3 : tie.Need-returns-3
+returns-3 c = rw (c .before .before .before .before .before .answer .given .1) (record { result = rw (c .before .before .put-reply .ensures .place, zero-add); laid = c .before .before .put-reply .ensures .laid })
+
+pub written-spec : {M : Type 1} → statement M
+written-spec =
+    tie.close
+    (tie.spec
+    enum-told
+    enum-told-2
+    enum-known-answer
+    put-reply-requires
+    returns
+    returns-2
+    same-length
+    returns-3)

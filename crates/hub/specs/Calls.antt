@@ -1,0 +1,66 @@
+-- The calls beside lines that take no time, and the question about the carriers.
+use Prim.Native.Nat.{ℕ, _-_}
+use mathlib.Core.Path.{_≡_}
+use mathlib.Core.Bool.{Bool, true, false, cond, not}
+use mathlib.Core.List.{List, [], _∷_}
+use lib.Dec.{ltb}
+use lib.ListN.{length}
+use lib.Seq.{sets}
+use Rattle.laws.specs.Checks.{_⇒_, first}
+use Rattle.pace.specs.Pace.{placeOf}
+use Rattle.store.specs.Store.{slotCounts, onAt}
+use Rattle.reply.specs.declared.Reply.the-variants.{Complete}
+use Rattle.reply.specs.Reply.{replyText}
+use Rattle.hub.specs.declared.Answer.the-variants as answer
+use Rattle.hub.specs.declared.Completion.{Completion}
+use Rattle.hub.specs.declared.Decided.{Decided}
+use Rattle.hub.specs.declared.Sending.{Sending}
+use Rattle.hub.specs.declared.Sending.the-variants.{Idle, Running}
+use Rattle.hub.specs.declared.Hub.{Hub}
+use Rattle.hub.specs.declared.Written.{Written}
+use Rattle.hub.specs.declared.Written.the-variants.{Refused, Line}
+use Rattle.hub.specs.Record.{connectorAt, withConnector}
+use Rattle.hub.specs.Connectors.{withReading, disowned}
+use Rattle.hub.specs.Send.{decidedAs, transmitsNot}
+
+-- "Calls themselves refuse with a number, nothing written and nothing changed"
+abbrev pub decidedRefusal : Hub → ℕ → Decided
+decidedRefusal h number = decidedAs (answer.Refused number) h
+
+-- 104 "contact reading for a port not 1 to 3, or not in SENSOR, or not 0 or 1"
+unfoldable pub readingStep : Hub → ℕ → ℕ → Decided
+readingStep h port value = first
+    ((ltb port 1 ⇒ decidedRefusal h 104)
+    ∷ (ltb 3 port ⇒ decidedRefusal h 104)
+    ∷ (not (transmitsNot (connectorAt h (port - 1) .mode)) ⇒ decidedRefusal h 104)
+    ∷ (ltb 1 value ⇒ decidedRefusal h 104)
+    ∷ []) (decidedAs answer.Taken (withConnector h (port - 1) (withReading (connectorAt h (port - 1)) value)))
+
+-- "Closing a connection changes one mark in each connector's record"
+abbrev pub closedHub : Hub → ℕ → Hub
+closedHub h connection =
+    record {
+      connectors =
+          disowned (connectorAt h 0) connection ∷ disowned (connectorAt h 1) connection ∷ disowned (connectorAt h 2) connection ∷ [];
+      relays = h .relays;
+    }
+
+unfoldable pub closedStep : Hub → ℕ → Decided
+closedStep h connection = cond (ltb 7 connection) (decidedRefusal h 102) (decidedAs answer.Taken (closedHub h connection))
+
+-- "for each connector whether its carrier is on now, off where nothing is transmitted"
+abbrev pub carrierOf : List ℕ → ℕ → Sending → Bool
+carrierOf store slot Idle = false
+carrierOf store slot (Running r) = onAt true (slotCounts store slot (r .count)) (placeOf (r .pace))
+
+abbrev pub carriersOf : Hub → List ℕ → List Bool
+carriersOf h store =
+    carrierOf store 0 (connectorAt h 0 .sending) ∷ carrierOf store 1 (connectorAt h 1 .sending) ∷ carrierOf store 2 (connectorAt h 2 .sending) ∷ []
+
+-- 101 "lent reply buffer under 128 bytes"
+abbrev pub completionText : Completion → List ℕ
+completionText c = replyText (Complete (c .port) (c .id))
+
+pub record CompletionWritten (c : Completion) (before : List ℕ) (r : Written) (after : List ℕ) : Type 0 where
+  pub result : r ≡ cond (ltb (length before) 128) (Refused 101) (Line (length (completionText c)))
+  pub laid : after ≡ cond (ltb (length before) 128) before (sets before 0 (completionText c))

@@ -1,0 +1,8 @@
+pub mod Record
+pub mod Connectors
+pub mod Send
+pub mod Line
+pub mod Calls
+pub mod Wait
+pub mod Refusals
+pub mod Ordered

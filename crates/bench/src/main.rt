@@ -73,7 +73,13 @@ fn fed(state: State, store: &mut [u16; 1560], line: &mut [u8], out: &mut [u8], b
 }
 
 // The bytes of a block.
-fn fed_block(state: State, store: &mut [u16; 1560], line: &mut [u8], out: &mut [u8], block: &[u8]) -> State
+fn fed_block(
+    state: State,
+    store: &mut [u16; 1560],
+    line: &mut [u8],
+    out: &mut [u8],
+    block: &[u8],
+) -> State
     requires { ⌜ SoundHub (state .hub) ⌝ }
     ensures { λ r. ⌜ SoundHub (r .hub) ⌝ }
 {

@@ -26,7 +26,14 @@ fn next_state(hub: Hub, used: usize) -> State
 }
 
 // An answer as lines: the asker's, then the owner's.
-fn put_answer(out: &mut [u8], used: usize, answer: Answer, connection: u64, reply: &[u8], size: usize) -> usize {
+fn put_answer(
+    out: &mut [u8],
+    used: usize,
+    answer: Answer,
+    connection: u64,
+    reply: &[u8],
+    size: usize,
+) -> usize {
     match answer {
         Answer::Refused(number) => output::put_refusal(out, used, number),
         Answer::Taken => used,
@@ -76,7 +83,14 @@ fn put_completions(out: &mut [u8], used: usize, completions: Completions) -> usi
     o
 }
 
-fn line_turn(hub: Hub, store: &mut [u16; 1560], connection: u64, text: &[u8], out: &mut [u8], used: usize) -> State
+fn line_turn(
+    hub: Hub,
+    store: &mut [u16; 1560],
+    connection: u64,
+    text: &[u8],
+    out: &mut [u8],
+    used: usize,
+) -> State
     requires { ⌜ SoundHub hub ⌝ }
     ensures { λ r. ⌜ SoundHub (r .hub) ⌝ }
 {

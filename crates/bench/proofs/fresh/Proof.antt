@@ -1,0 +1,13 @@
+use Rattle.hub.proofs.Keeps.{fresh-sound}
+use borrow.Author.Needs.{needs}
+use Rattle.bench.proofs.fresh.Statement.{statement}
+use Rattle.bench.proofs.fresh.Tie as tie
+
+fresh-requires : tie.Need-fresh-requires
+fresh-requires c κs = search needs
+
+returns : tie.Need-returns
+returns c = rw (c .fresh .ensures) fresh-sound
+
+pub fresh-spec : {M : Type 1} → statement M
+fresh-spec = tie.close (tie.spec fresh-requires returns)

@@ -1,0 +1,96 @@
+use mathlib.Core.Path.{_≡_, refl}
+use native.Mathlib.Omega.{arith}
+use lib.ListN.{length}
+use Rattle.hub.specs.Record.{SoundHub}
+use Rattle.bench.proofs.run.Statement.{statement}
+use Rattle.bench.proofs.run.Tie as tie
+use borrow.Author.Needs.{needs}
+
+abbrev Inv-loop : tie.InvT-loop
+Inv-loop store₀ line₀ out₀ block₀ state₀ turns₀ store line out block state turns = SoundHub (state .hub) × (length line ≡ 4108) × (length out ≡ 65536) × (length block ≡ 65536)
+
+abbrev μ-loop : tie.MeasureT-loop
+μ-loop store₀ line₀ out₀ block₀ state₀ turns₀ store line out block state turns = turns
+
+fresh-requires : tie.Need-fresh-requires Inv-loop μ-loop
+fresh-requires c κs = search needs
+
+loop-holds : tie.Need-loop-holds Inv-loop μ-loop
+loop-holds c = (c .fresh .ensures, refl, refl, refl)
+
+slice-aggregate-read : tie.Need-slice-aggregate-read Inv-loop μ-loop
+slice-aggregate-read c = search needs
+
+read-requires : tie.Need-read-requires Inv-loop μ-loop
+read-requires c κs = search needs
+
+slice-aggregate-count : tie.Need-slice-aggregate-count Inv-loop μ-loop
+slice-aggregate-count c = search needs
+
+count-requires : tie.Need-count-requires Inv-loop μ-loop
+count-requires c κs = search needs
+
+end-requires : tie.Need-end-requires Inv-loop μ-loop
+end-requires c κs = search needs
+
+returns : tie.Need-returns Inv-loop μ-loop
+returns c = search needs
+
+slice-aggregate-fed-block : tie.Need-slice-aggregate-fed-block Inv-loop μ-loop
+slice-aggregate-fed-block c = search needs
+
+slice-aggregate-fed-block-2 : tie.Need-slice-aggregate-fed-block-2 Inv-loop μ-loop
+slice-aggregate-fed-block-2 c = search needs
+
+slice-aggregate-front : tie.Need-slice-aggregate-front Inv-loop μ-loop
+slice-aggregate-front c = search needs
+
+front-requires : tie.Need-front-requires Inv-loop μ-loop
+front-requires c κs = search needs
+
+fed-block-requires : tie.Need-fed-block-requires Inv-loop μ-loop
+fed-block-requires c κs = search needs
+
+slice-aggregate-flushed : tie.Need-slice-aggregate-flushed Inv-loop μ-loop
+slice-aggregate-flushed c = search needs
+
+flushed-requires : tie.Need-flushed-requires Inv-loop μ-loop
+flushed-requires c κs = search needs
+
+sub-turns : tie.Need-sub-turns Inv-loop μ-loop
+sub-turns c = omega (arith, c .before .before .before .before .before .before .before .before .before .before .before .before .before .before .before .before .loop-test .taken)
+
+loop-less : tie.Need-loop-less Inv-loop μ-loop
+loop-less c = omega (arith, c .before .before .before .before .before .before .before .before .before .before .before .before .before .before .before .before .loop-test .taken)
+
+loop-again : tie.Need-loop-again Inv-loop μ-loop
+loop-again c = (c .flushed .ensures, omega arith, omega arith, omega arith)
+
+returns-2 : tie.Need-returns-2 Inv-loop μ-loop
+returns-2 c = search needs
+
+pub run-spec : {M : Type 1} → statement M
+run-spec =
+    tie.close
+    (tie.spec
+    Inv-loop
+    μ-loop
+    fresh-requires
+    loop-holds
+    slice-aggregate-read
+    read-requires
+    slice-aggregate-count
+    count-requires
+    end-requires
+    returns
+    slice-aggregate-fed-block
+    slice-aggregate-fed-block-2
+    slice-aggregate-front
+    front-requires
+    fed-block-requires
+    slice-aggregate-flushed
+    flushed-requires
+    sub-turns
+    loop-less
+    loop-again
+    returns-2)

@@ -1,0 +1,738 @@
+/*
+ * A plain hub in C11: the peer for benchmarks and differential tests.
+ * Written from document 01 and the readings only.
+ *
+ * Standard input: the bench's lines.  Standard output: the bench's output.
+ * Time is exact: a tick is a millionth of a carrier period, so that one
+ * microsecond is freq ticks.  Nothing is rounded but the moment of completion.
+ */
+#include <stdint.h>
+#include <string.h>
+#include <stdlib.h>
+#include <errno.h>
+#include <unistd.h>
+
+typedef unsigned char u8;
+typedef uint32_t u32;
+typedef uint64_t u64;
+
+enum {
+    CONNECTIONS = 8,
+    PORTS = 3,
+    PAIRS = 260,
+    LETTERS = 15,
+    LINE_MAX_BYTES = 4096,
+    NUMBER_DIGITS = 6,
+    BENCH_DIGITS = 10,
+    /* enough of a bench line to judge it: number, space, one byte too many */
+    KEEP = BENCH_DIGITS + 1 + LINE_MAX_BYTES + 1,
+    BLOCK = 65536
+};
+
+#define TICKS 1000000u               /* ticks in a carrier period */
+#define WAIT_MAX 1000000000u
+#define NONE 0xFFFFFFFFu             /* not a number, or out of range */
+
+enum mode { IR, SENSOR, IR_BLASTER };
+enum { UNREAD = -1, NOBODY = -1 };
+
+struct command {
+    u32 id, freq, repeat, offset;    /* repeat as capped */
+    u32 n;                           /* pairs */
+    u32 pair[PAIRS];                 /* on << 16 | off */
+};
+
+struct connector {
+    enum mode mode;
+    int contact;                     /* UNREAD, 0 or 1 */
+    int busy;
+    int owner;                       /* connection or NOBODY */
+    u64 lead, tail;                  /* periods before and from the offset on */
+    u64 at;                          /* ticks done */
+    u64 copies;                      /* copies in all; total = lead + copies * tail */
+    struct command cmd;
+};
+
+static struct connector conn[PORTS + 1];   /* 1 to 3 */
+static int relay[PORTS + 1];
+static struct command scratch;
+
+static const char *const mode_name[3] = { "IR", "SENSOR", "IR_BLASTER" };
+static const u8 mode_len[3] = { 2, 6, 10 };
+
+/* ---------------------------------------------------------------- output */
+
+static char out[BLOCK];
+static size_t out_n;
+
+static void flush(void)
+{
+    size_t done = 0;
+    while (done < out_n) {
+        ssize_t k = write(1, out + done, out_n - done);
+        if (k < 0) {
+            if (errno == EINTR)
+                continue;
+            _exit(1);
+        }
+        done += (size_t)k;
+    }
+    out_n = 0;
+}
+
+/* room for one bench line's whole output, which is well under 512 bytes */
+static inline void room(void)
+{
+    if (out_n > sizeof out - 512)
+        flush();
+}
+
+static inline void put(const char *s, size_t n)
+{
+    memcpy(out + out_n, s, n);
+    out_n += n;
+}
+#define PUT(s) put(s, sizeof(s) - 1)
+
+static inline void put_char(char c) { out[out_n++] = c; }
+
+static void put_number(u64 v)
+{
+    char b[20];
+    size_t i = sizeof b;
+    do {
+        b[--i] = (char)('0' + v % 10);
+        v /= 10;
+    } while (v);
+    put(b + i, sizeof b - i);
+}
+
+static inline void put_asker(u32 c)
+{
+    put_char((char)('0' + c));
+    put_char(' ');
+}
+
+static void put_error(u32 c, u32 m, u32 p, u32 number)
+{
+    put_asker(c);
+    PUT("ERR_");
+    put_char((char)('0' + m));
+    put_char(':');
+    put_char((char)('0' + p));
+    PUT(",0");
+    put_char((char)('0' + number / 10));
+    put_char((char)('0' + number % 10));
+    put_char('\n');
+}
+
+static void put_state(u32 c, u32 m, u32 p, int s)
+{
+    put_asker(c);
+    PUT("state,");
+    put_char((char)('0' + m));
+    put_char(':');
+    put_char((char)('0' + p));
+    put_char(',');
+    put_char((char)('0' + s));
+    put_char('\n');
+}
+
+static void put_mode(u32 c, u32 p)
+{
+    put_asker(c);
+    PUT("IR,1:");
+    put_char((char)('0' + p));
+    put_char(',');
+    put(mode_name[conn[p].mode], mode_len[conn[p].mode]);
+    put_char('\n');
+}
+
+static void put_stop(u32 c, u32 p)
+{
+    put_asker(c);
+    PUT("stopir,1:");
+    put_char((char)('0' + p));
+    put_char('\n');
+}
+
+/* --------------------------------------------------------------- reading */
+
+static inline int is_digit(u8 b) { return (u8)(b - '0') <= 9; }
+static inline int is_letter(u8 b) { return (u8)(b - 'A') <= 25; }
+
+/* The end of the field that starts at s: its comma or the line's end. */
+static inline const u8 *field_end(const u8 *s, const u8 *e)
+{
+    while (s < e && *s != ',')
+        s++;
+    return s;
+}
+
+/* A whole field as a number; NONE if empty, not digits or over 6 digits. */
+static u32 field_number(const u8 *s, const u8 *e)
+{
+    u32 v = 0;
+    if (s == e || e - s > NUMBER_DIGITS)
+        return NONE;
+    for (; s < e; s++) {
+        if (!is_digit(*s))
+            return NONE;
+        v = v * 10 + (u32)(*s - '0');
+    }
+    return v;
+}
+
+/*
+ * Reads the code s..e into scratch (freq is there already).
+ * Answers 0 or the number of the first fault from the left.
+ */
+static u32 read_code(const u8 *s, const u8 *e)
+{
+    const u32 freq = scratch.freq;
+    u32 least = (freq + 12499) / 12500;
+    u32 letter[LETTERS];
+    u32 letters = 0, n = 0;
+    u32 *const pair = scratch.pair;
+
+    if (least < 4)
+        least = 4;
+    if (s == e)
+        return 9;
+    if (is_letter(*s))
+        return 22;                    /* no pair has a letter yet */
+
+    for (;;) {
+        /* A spelled pair must begin here, not at a letter. */
+        if (s == e || !is_digit(*s))
+            return 9;
+        if (n == PAIRS)
+            return 20;
+
+        const u8 *b = s;
+        u32 on = 0, off = 0;
+        do {
+            if (s - b < NUMBER_DIGITS)
+                on = on * 10 + (u32)(*s - '0');
+            s++;
+        } while (s < e && is_digit(*s));
+        if (s - b > NUMBER_DIGITS || on < least || on > 50000)
+            return 9;
+        if (s == e)
+            return 10;
+        if (*s != ',')
+            return is_letter(*s) ? 21 : 9;
+        s++;
+        if (s == e)
+            return 9;
+        if (!is_digit(*s))
+            return is_letter(*s) ? 21 : 9;
+        b = s;
+        do {
+            if (s - b < NUMBER_DIGITS)
+                off = off * 10 + (u32)(*s - '0');
+            s++;
+        } while (s < e && is_digit(*s));
+        if (s - b > NUMBER_DIGITS || off < least || off > 50000)
+            return 9;
+
+        u32 one = on << 16 | off;
+        pair[n++] = one;
+        if (letters < LETTERS) {
+            u32 i = 0;
+            while (i < letters && letter[i] != one)
+                i++;
+            if (i == letters)
+                letter[letters++] = one;
+        }
+
+        if (s == e)
+            break;
+        if (*s == ',') {
+            s++;                      /* a spelled pair must follow */
+            continue;
+        }
+        if (!is_letter(*s))
+            return 9;
+        do {
+            if (n == PAIRS)
+                return 20;
+            u32 i = (u32)(*s - 'A');
+            if (i >= letters)
+                return 22;
+            pair[n++] = letter[i];
+            s++;
+        } while (s < e && is_letter(*s));
+        if (s == e)
+            break;
+        /* a digit begins the next spelled pair, all else is 009 */
+    }
+    scratch.n = n;
+    return 0;
+}
+
+/* -------------------------------------------------------------- requests */
+
+static void start(struct connector *k, u32 c)
+{
+    u32 before = (scratch.offset - 1) / 2;
+    u64 lead = 0, tail = 0;
+    for (u32 i = 0; i < before; i++)
+        lead += (scratch.pair[i] >> 16) + (scratch.pair[i] & 0xFFFF);
+    for (u32 i = before; i < scratch.n; i++)
+        tail += (scratch.pair[i] >> 16) + (scratch.pair[i] & 0xFFFF);
+    k->busy = 1;
+    k->owner = (int)c;
+    k->lead = lead;
+    k->tail = tail;
+    k->at = 0;
+    k->copies = scratch.repeat;
+    k->cmd.id = scratch.id;
+    k->cmd.freq = scratch.freq;
+    k->cmd.repeat = scratch.repeat;
+    k->cmd.offset = scratch.offset;
+    k->cmd.n = scratch.n;
+    memcpy(k->cmd.pair, scratch.pair, scratch.n * sizeof scratch.pair[0]);
+}
+
+static int same_command(const struct command *a, const struct command *b)
+{
+    return a->id == b->id && a->freq == b->freq && a->repeat == b->repeat
+        && a->offset == b->offset && a->n == b->n
+        && memcmp(a->pair, b->pair, a->n * sizeof a->pair[0]) == 0;
+}
+
+/*
+ * The total becomes copies begun plus repeat.  The tails of finished copies
+ * are taken off both sides, so the copy in hand is again the first one.
+ */
+static void renew(struct connector *k)
+{
+    u64 lead = k->lead * TICKS, tail = k->tail * TICKS;
+    if (k->at >= lead)
+        k->at = lead + (k->at - lead) % tail;
+    k->copies = 1 + (u64)k->cmd.repeat;
+}
+
+/* s is at the comma after the address, or at the line's end. */
+static void do_sendir(u32 c, u32 p, const u8 *s, const u8 *e)
+{
+    struct connector *k = &conn[p];
+    u32 fault = 0, v;
+    const u8 *f;
+
+    if (k->mode == SENSOR) {
+        put_error(c, 1, p, 13);
+        return;
+    }
+#define NEXT() do { if (s < e) s++; f = s; s = field_end(s, e); v = field_number(f, s); } while (0)
+    NEXT();
+    if (v > 65535) { fault = 4; goto refuse; }
+    scratch.id = v;
+    NEXT();
+    if (v < 15000 || v > 500000) { fault = 5; goto refuse; }
+    scratch.freq = v;
+    NEXT();
+    if (v < 1 || v > 999999) { fault = 6; goto refuse; }
+    scratch.repeat = v > 20 ? 20 : v;
+    NEXT();
+    if (v < 1 || v > 383 || v % 2 == 0) { fault = 7; goto refuse; }
+    scratch.offset = v;
+#undef NEXT
+    if (s < e)
+        s++;
+    fault = read_code(s, e);
+    if (fault == 0 && scratch.offset > 2 * scratch.n - 1)
+        fault = 7;
+    if (fault)
+        goto refuse;
+
+    if (!k->busy)
+        start(k, c);
+    else if (k->owner != (int)c) {
+        put_asker(c);
+        PUT("busyIR,1:");
+        put_char((char)('0' + p));
+        put_char(',');
+        put_number(scratch.id);
+        put_char('\n');
+    } else if (same_command(&k->cmd, &scratch))
+        renew(k);
+    else
+        start(k, c);
+    return;
+
+refuse:
+    put_error(c, 1, p, fault);
+}
+
+static void do_set_ir(u32 c, u32 p, const u8 *s, const u8 *e)
+{
+    struct connector *k = &conn[p];
+    if (s < e)
+        s++;
+    const u8 *f = s;
+    s = field_end(s, e);
+    size_t len = (size_t)(s - f);
+    int m;
+    for (m = 0; m < 3; m++)
+        if (len == mode_len[m] && memcmp(f, mode_name[m], len) == 0)
+            break;
+    if (m == 3)
+        put_error(c, 1, p, 23);
+    else if (m == IR_BLASTER && p != 3)
+        put_error(c, 1, p, 14);
+    else if (s < e)
+        put_error(c, 0, 0, 17);
+    else if (k->busy)
+        put_error(c, 1, p, 29);
+    else {
+        if (k->mode != (enum mode)m) {
+            k->mode = (enum mode)m;
+            k->contact = UNREAD;
+        }
+        put_mode(c, p);
+    }
+}
+
+static void do_setstate(u32 c, u32 p, const u8 *s, const u8 *e)
+{
+    if (s < e)
+        s++;
+    const u8 *f = s;
+    s = field_end(s, e);
+    u32 v = field_number(f, s);
+    if (v > 1)
+        put_error(c, 2, p, 23);
+    else if (s < e)
+        put_error(c, 0, 0, 17);
+    else {
+        relay[p] = (int)v;
+        put_state(c, 2, p, (int)v);
+    }
+}
+
+static void do_stopir(u32 c, u32 p)
+{
+    struct connector *k = &conn[p];
+    if (k->mode == SENSOR) {
+        put_error(c, 1, p, 13);
+        return;
+    }
+    put_stop(c, p);
+    if (k->busy) {
+        if (k->owner != NOBODY && k->owner != (int)c)
+            put_stop((u32)k->owner, p);
+        k->busy = 0;
+        k->owner = NOBODY;
+    }
+}
+
+static void do_getstate(u32 c, u32 m, u32 p)
+{
+    if (m == 2)
+        put_state(c, 2, p, relay[p]);
+    else if (conn[p].mode != SENSOR)
+        put_error(c, 1, p, 18);
+    else if (conn[p].contact == UNREAD)
+        put_error(c, 1, p, 28);
+    else
+        put_state(c, 1, p, conn[p].contact);
+}
+
+enum name { UNKNOWN, GETDEVICES, GETVERSION, SET_IR, GET_IR, SETSTATE, GETSTATE, SENDIR, STOPIR };
+
+static enum name read_name(const u8 *s, size_t n)
+{
+#define IS(text) (memcmp(s, text, sizeof(text) - 1) == 0)
+    switch (n) {
+    case 6:
+        if (IS("sendir")) return SENDIR;
+        if (IS("set_IR")) return SET_IR;
+        if (IS("get_IR")) return GET_IR;
+        if (IS("stopir")) return STOPIR;
+        break;
+    case 8:
+        if (IS("getstate")) return GETSTATE;
+        if (IS("setstate")) return SETSTATE;
+        break;
+    case 10:
+        if (IS("getdevices")) return GETDEVICES;
+        if (IS("getversion")) return GETVERSION;
+        break;
+    }
+#undef IS
+    return UNKNOWN;
+}
+
+/* One request line of connection c (0 to 7), without its end. */
+static void request(u32 c, const u8 *s, size_t n)
+{
+    const u8 *e = s + n, *f;
+
+    if (n > LINE_MAX_BYTES) {
+        put_error(c, 0, 0, 15);
+        return;
+    }
+    unsigned bad = 0;
+    for (size_t i = 0; i < n; i++)
+        bad |= (u8)(s[i] - 32) > 94;
+    f = s;
+    s = field_end(s, e);
+    enum name name = read_name(f, (size_t)(s - f));
+    if (bad || name == UNKNOWN) {
+        put_error(c, 0, 0, 1);
+        return;
+    }
+
+    if (name == GETDEVICES || name == GETVERSION) {
+        if (s < e)
+            put_error(c, 0, 0, 17);
+        else if (name == GETVERSION) {
+            put_asker(c);
+            PUT("LH-01\n");
+        } else {
+            put_asker(c);
+            PUT("device,0,0 ETHERNET\n");
+            put_asker(c);
+            PUT("device,1,3 IR\n");
+            put_asker(c);
+            PUT("device,2,3 RELAY\n");
+            put_asker(c);
+            PUT("endlistdevices\n");
+        }
+        return;
+    }
+
+    /* the address: digits, colon, digits, and then a comma or the end */
+    if (s < e)
+        s++;
+    const u8 *m0 = s;
+    while (s < e && is_digit(*s))
+        s++;
+    const u8 *m1 = s;
+    if (m1 == m0 || s == e || *s != ':') {
+        put_error(c, 0, 0, 17);
+        return;
+    }
+    s++;
+    const u8 *p0 = s;
+    while (s < e && is_digit(*s))
+        s++;
+    if (s == p0 || (s < e && *s != ',')) {
+        put_error(c, 0, 0, 17);
+        return;
+    }
+    u32 m = field_number(m0, m1), p = field_number(p0, s);
+    if (name == GETSTATE ? (m != 1 && m != 2) : m != (name == SETSTATE ? 2u : 1u)) {
+        put_error(c, 0, 0, 2);
+        return;
+    }
+    if (p < 1 || p > PORTS) {
+        put_error(c, 0, 0, 3);
+        return;
+    }
+
+    switch (name) {
+    case SENDIR:
+        do_sendir(c, p, s, e);
+        return;
+    case SET_IR:
+        do_set_ir(c, p, s, e);
+        return;
+    case SETSTATE:
+        do_setstate(c, p, s, e);
+        return;
+    default:
+        break;
+    }
+    if (s < e) {
+        put_error(c, 0, 0, 17);
+        return;
+    }
+    if (name == STOPIR)
+        do_stopir(c, p);
+    else if (name == GETSTATE)
+        do_getstate(c, m, p);
+    else
+        put_mode(c, p);
+}
+
+/* ----------------------------------------------------------------- calls */
+
+static void do_wait(u64 n)
+{
+    u64 moment[PORTS];
+    u32 port[PORTS];
+    u32 done = 0;
+
+    for (u32 p = 1; p <= PORTS; p++) {
+        struct connector *k = &conn[p];
+        if (!k->busy)
+            continue;
+        u64 freq = k->cmd.freq;
+        u64 left = (k->lead + k->copies * k->tail) * TICKS - k->at;
+        if (left > n * freq) {
+            k->at += n * freq;
+            continue;
+        }
+        u64 when = (left + freq - 1) / freq;
+        u32 i = done++;
+        while (i > 0 && moment[i - 1] > when) {
+            moment[i] = moment[i - 1];
+            port[i] = port[i - 1];
+            i--;
+        }
+        moment[i] = when;
+        port[i] = p;
+    }
+    for (u32 i = 0; i < done; i++) {
+        struct connector *k = &conn[port[i]];
+        put_char('@');
+        put_number(moment[i]);
+        put_char(' ');
+        put_char(k->owner == NOBODY ? '-' : (char)('0' + k->owner));
+        PUT(" completeir,1:");
+        put_char((char)('0' + port[i]));
+        put_char(',');
+        put_number(k->cmd.id);
+        put_char('\n');
+        k->busy = 0;
+        k->owner = NOBODY;
+    }
+}
+
+static void refuse(const char *number)
+{
+    put_char('!');
+    put(number, strlen(number));
+    put_char('\n');
+}
+
+/* ----------------------------------------------------------------- bench */
+
+/* A bench number of 1 to 10 digits at *s; 0 if there is none. */
+static int bench_number(const u8 **s, const u8 *e, u64 *v)
+{
+    const u8 *b = *s, *t = b;
+    u64 x = 0;
+    while (t < e && is_digit(*t)) {
+        if (t - b == BENCH_DIGITS)
+            return 0;
+        x = x * 10 + (u64)(*t - '0');
+        t++;
+    }
+    *s = t;
+    *v = x;
+    return t != b;
+}
+
+static inline int bench_space(const u8 **s, const u8 *e)
+{
+    if (*s == e || **s != ' ')
+        return 0;
+    ++*s;
+    return 1;
+}
+
+/* One bench line without its LF. */
+static void bench_line(const u8 *s, size_t n)
+{
+    const u8 *e = s + n;
+    u64 a, b;
+
+    room();
+    if (n == 0)
+        goto other;
+    if (is_digit(*s)) {
+        if (!bench_number(&s, e, &a) || !bench_space(&s, e))
+            goto other;
+        if (a >= CONNECTIONS)
+            refuse("102");
+        else
+            request((u32)a, s, (size_t)(e - s));
+        return;
+    }
+    u8 kind = *s++;
+    if (kind != 'r' && kind != 'x' && kind != 'w')
+        goto other;
+    if (!bench_space(&s, e) || !bench_number(&s, e, &a))
+        goto other;
+    if (kind == 'r' && (!bench_space(&s, e) || !bench_number(&s, e, &b)))
+        goto other;
+    if (s != e)
+        goto other;
+    if (kind == 'w') {
+        if (a > WAIT_MAX)
+            refuse("103");
+        else
+            do_wait(a);
+    } else if (kind == 'x') {
+        if (a >= CONNECTIONS)
+            refuse("102");
+        else
+            for (u32 p = 1; p <= PORTS; p++)
+                if (conn[p].owner == (int)a)
+                    conn[p].owner = NOBODY;
+    } else {
+        if (a < 1 || a > PORTS || conn[a].mode != SENSOR || b > 1)
+            refuse("104");
+        else
+            conn[a].contact = (int)b;
+    }
+    return;
+other:
+    refuse("");
+}
+
+static u8 block[BLOCK];
+static u8 kept[KEEP];               /* the start of a line begun in an earlier block */
+
+int main(void)
+{
+    size_t kept_n = 0;
+    int partial = 0;                 /* bytes of an unfinished line have been read */
+
+    for (u32 p = 1; p <= PORTS; p++) {
+        conn[p].mode = IR;
+        conn[p].contact = UNREAD;
+        conn[p].owner = NOBODY;
+    }
+    for (;;) {
+        flush();
+        ssize_t got = read(0, block, sizeof block);
+        if (got < 0) {
+            if (errno == EINTR)
+                continue;
+            return 1;
+        }
+        if (got == 0)
+            break;
+        const u8 *s = block, *e = block + got;
+        while (s < e) {
+            const u8 *lf = memchr(s, '\n', (size_t)(e - s));
+            const u8 *stop = lf ? lf : e;
+            size_t n = (size_t)(stop - s);
+            if (lf && !partial) {
+                bench_line(s, n);
+            } else {
+                /* what is cut off changes nothing: the line is 015, !102 or ! */
+                if (n > KEEP - kept_n)
+                    n = KEEP - kept_n;
+                memcpy(kept + kept_n, s, n);
+                kept_n += n;
+                partial = 1;
+                if (lf) {
+                    bench_line(kept, kept_n);
+                    kept_n = 0;
+                    partial = 0;
+                }
+            }
+            s = lf ? lf + 1 : e;
+        }
+    }
+    if (partial)
+        refuse("");
+    flush();
+    return 0;
+}

@@ -3,6 +3,8 @@
 use hub::Hub;
 use libc::STDIN_FILENO;
 use libc::STDOUT_FILENO;
+ghost use Prim.Native.Nat.{_≤_};
+ghost use lib.ListN.{length};
 ghost use Rattle.hub.specs.Record.{SoundHub};
 
 mod input;
@@ -53,27 +55,81 @@ fn flushed(state: State, out: &[u8]) -> State
     next
 }
 
-// One byte of the script.
-fn fed(state: State, store: &mut [u16; 1560], line: &mut [u8], out: &mut [u8], b: u8) -> State
+// Where a line ends that goes on at a place of a block: at its LF, or with the block.
+fn line_end(block: &[u8], from: usize) -> usize
+    requires { ⌜ from ≤ length (now block) ⌝ }
+    ensures { λ r. ⌜ (from ≤ r) × (r ≤ length (now (block .entry))) ⌝ }
+{
+    let mut i = from;
+    while i < block.len() {
+        if block[i] == b'\n' {
+            return i;
+        }
+        i += 1;
+    }
+    i
+}
+
+// Puts bytes behind the line so far, as far as there is room; gives the length of what there is then.
+fn append(line: &mut [u8], size: usize, part: &[u8]) -> usize
+    ensures { λ r. ⌜ size ≤ r ⌝ }
+{
+    let mut at = size;
+    let mut i = 0;
+    while i < part.len() {
+        if line.len() <= at {
+            return at;
+        }
+        line[at] = part[i];
+        at += 1;
+        i += 1;
+    }
+    at
+}
+
+// More of a line that is not ended.
+fn taken(state: State, line: &mut [u8], part: &[u8]) -> State
     requires { ⌜ SoundHub (state .hub) ⌝ }
     ensures { λ r. ⌜ SoundHub (r .hub) ⌝ }
 {
-    if b == b'\n' {
-        return turn::ended(state, store, line, out);
-    }
-    let size = state.size;
+    let size = append(line, state.size, part);
     let mut next = state;
-    if size < line.len() {
-        line[size] = b;
-        next.size = size + 1;
+    next.size = size;
+    if size - state.size < part.len() {
+        next.over = true;
         return next;
     }
-    next.over = true;
     next
 }
 
+// The rest of a line, which an LF ends. A line that came whole is not copied.
+fn ended(
+    state: State,
+    store: &mut [u16; 1560],
+    line: &mut [u8],
+    out: &mut [u8],
+    part: &[u8],
+) -> State
+    requires { ⌜ SoundHub (state .hub) ⌝ }
+    ensures { λ r. ⌜ SoundHub (r .hub) ⌝ }
+{
+    let used = turn::with_room(out, state.used);
+    if state.size == 0 {
+        if part.len() <= input::MOST_BYTES {
+            let hub = state.hub;
+            return turn::whole(hub, store, part, out, used);
+        }
+    }
+    let all = taken(state, line, part);
+    let hub = all.hub;
+    if all.over {
+        return turn::cut_off(hub, front(line, all.size), out, used);
+    }
+    turn::whole(hub, store, front(line, all.size), out, used)
+}
+
 // The bytes of a block.
-fn fed_block(
+fn fed(
     state: State,
     store: &mut [u16; 1560],
     line: &mut [u8],
@@ -86,8 +142,12 @@ fn fed_block(
     let mut next = state;
     let mut i = 0;
     while i < block.len() {
-        next = fed(next, store, line, out, block[i]);
-        i += 1;
+        let end = line_end(block, i);
+        if end == block.len() {
+            return taken(next, line, &block[i..end]);
+        }
+        next = ended(next, store, line, out, &block[i..end]);
+        i = end + 1;
     }
     next
 }
@@ -114,8 +174,8 @@ fn run() {
         if count == 0 {
             return end(state);
         }
-        let fed = fed_block(state, &mut store, &mut line, &mut out, front(&block, count));
-        state = flushed(fed, &out);
+        let next = fed(state, &mut store, &mut line, &mut out, front(&block, count));
+        state = flushed(next, &out);
         turns -= 1;
     }
 }

@@ -3,7 +3,6 @@ use crate::State;
 use crate::input::Input;
 use crate::output;
 use hub::Answer;
-use hub::Answered;
 use hub::Completion;
 use hub::Completions;
 use hub::Decided;
@@ -141,7 +140,7 @@ fn wait_turn(hub: Hub, micros: u64, out: &mut [u8], used: usize) -> State
 }
 
 // A line that is whole.
-fn whole(hub: Hub, store: &mut [u16; 1560], line: &[u8], out: &mut [u8], used: usize) -> State
+pub fn whole(hub: Hub, store: &mut [u16; 1560], line: &[u8], out: &mut [u8], used: usize) -> State
     requires { ⌜ SoundHub hub ⌝ }
     ensures { λ r. ⌜ SoundHub (r .hub) ⌝ }
 {
@@ -161,7 +160,7 @@ fn whole(hub: Hub, store: &mut [u16; 1560], line: &[u8], out: &mut [u8], used: u
 }
 
 // A line of which only the first bytes were kept: a request in it is overlong, and no other form is so long.
-fn cut_off(hub: Hub, line: &[u8], out: &mut [u8], used: usize) -> State
+pub fn cut_off(hub: Hub, line: &[u8], out: &mut [u8], used: usize) -> State
     requires { ⌜ SoundHub hub ⌝ }
     ensures { λ r. ⌜ SoundHub (r .hub) ⌝ }
 {
@@ -175,7 +174,7 @@ fn cut_off(hub: Hub, line: &[u8], out: &mut [u8], used: usize) -> State
 }
 
 // Where the next turn begins to write: there is room for all that it can say, or it is made.
-fn with_room(out: &[u8], used: usize) -> usize {
+pub fn with_room(out: &[u8], used: usize) -> usize {
     if used < out.len() {
         if 512 <= out.len() - used {
             return used;
@@ -183,17 +182,4 @@ fn with_room(out: &[u8], used: usize) -> usize {
     }
     crate::flush(out, used);
     0
-}
-
-// The line that its LF ends.
-pub fn ended(state: State, store: &mut [u16; 1560], line: &[u8], out: &mut [u8]) -> State
-    requires { ⌜ SoundHub (state .hub) ⌝ }
-    ensures { λ r. ⌜ SoundHub (r .hub) ⌝ }
-{
-    let hub = state.hub;
-    let used = with_room(out, state.used);
-    if state.over {
-        return cut_off(hub, crate::front(line, state.size), out, used);
-    }
-    whole(hub, store, crate::front(line, state.size), out, used)
 }

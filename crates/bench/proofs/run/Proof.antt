@@ -36,11 +36,11 @@ end-requires c κs = search needs
 returns : tie.Need-returns Inv-loop μ-loop
 returns c = search needs
 
-slice-aggregate-fed-block : tie.Need-slice-aggregate-fed-block Inv-loop μ-loop
-slice-aggregate-fed-block c = search needs
+slice-aggregate-fed : tie.Need-slice-aggregate-fed Inv-loop μ-loop
+slice-aggregate-fed c = search needs
 
-slice-aggregate-fed-block-2 : tie.Need-slice-aggregate-fed-block-2 Inv-loop μ-loop
-slice-aggregate-fed-block-2 c = search needs
+slice-aggregate-fed-2 : tie.Need-slice-aggregate-fed-2 Inv-loop μ-loop
+slice-aggregate-fed-2 c = search needs
 
 slice-aggregate-front : tie.Need-slice-aggregate-front Inv-loop μ-loop
 slice-aggregate-front c = search needs
@@ -48,8 +48,8 @@ slice-aggregate-front c = search needs
 front-requires : tie.Need-front-requires Inv-loop μ-loop
 front-requires c κs = search needs
 
-fed-block-requires : tie.Need-fed-block-requires Inv-loop μ-loop
-fed-block-requires c κs = search needs
+fed-requires : tie.Need-fed-requires Inv-loop μ-loop
+fed-requires c κs = search needs
 
 slice-aggregate-flushed : tie.Need-slice-aggregate-flushed Inv-loop μ-loop
 slice-aggregate-flushed c = search needs
@@ -83,11 +83,11 @@ run-spec =
     count-requires
     end-requires
     returns
-    slice-aggregate-fed-block
-    slice-aggregate-fed-block-2
+    slice-aggregate-fed
+    slice-aggregate-fed-2
     slice-aggregate-front
     front-requires
-    fed-block-requires
+    fed-requires
     slice-aggregate-flushed
     flushed-requires
     sub-turns

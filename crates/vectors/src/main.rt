@@ -1,6 +1,8 @@
-// Runs worked values of document 01, those that are too long to be proved and its cases of a code's faults, and prints each
-// with what was expected.
+// Runs worked values of document 01, those that are too long to be proved, and cases of its rules, and prints each with what was
+// expected.
 use code::CodeRead;
+use hub::Answer;
+use hub::Hub;
 use libc::STDOUT_FILENO;
 use request::Request;
 use request::fields::Fields;
@@ -218,10 +220,65 @@ fn long_lines() {
     line_vector(b"getdevices", front(&buf, 10), 0);
 }
 
+// What a fresh hub replies to a line, without its CR; nothing where the line is only taken.
+fn reply_vector(line: &[u8], expected: &[u8]) {
+    let mut store = [0u16; 1560];
+    let mut reply = [0u8; 128];
+    let answered = hub::line::line(Hub::fresh(), &mut store, 0, line, &mut reply);
+    let size = answered.size;
+    let shown = if size == 0 { 0 } else { size - 1 };
+    say(b"hub ");
+    say(line);
+    say(b": expected <");
+    say(expected);
+    say(b">, got <");
+    say(front(&reply, shown));
+    say(b">");
+    say_verdict(check::same(front(&reply, shown), expected));
+}
+
+// Repeats and offsets at their limits: only an offset beyond the code waits for the code.
+fn limits() {
+    reply_vector(b"sendir,1:1,1,40000,0,1,24,48", b"ERR_1:1,006");
+    reply_vector(b"sendir,1:1,1,40000,1,1,24,48", b"");
+    reply_vector(b"sendir,1:1,1,40000,999999,1,24,48", b"");
+    reply_vector(b"sendir,1:1,1,40000,1000000,1,24,48", b"ERR_1:1,006");
+    reply_vector(b"sendir,1:1,1,40000,1,3,24,48", b"ERR_1:1,007");
+    reply_vector(b"sendir,1:1,1,40000,1,3,24,48,24,48", b"");
+    reply_vector(b"sendir,1:1,1,40000,1,385,24,48", b"ERR_1:1,007");
+    reply_vector(b"sendir,1:1,1,40000,1,3,24,48,3", b"ERR_1:1,009");
+    reply_vector(b"sendir,1:1,65535,500000,1,1,40,40", b"");
+    reply_vector(b"sendir,1:1,65536,500000,1,1,40,40", b"ERR_1:1,004");
+    reply_vector(b"sendir,1:1,65535,500001,1,1,40,40", b"ERR_1:1,005");
+    reply_vector(b"sendir,1:1,65535,500000,1,1,40,39", b"ERR_1:1,009");
+}
+
+// A wait of a fresh hub: its refusal, 0 where it is taken.
+fn wait_vector(micros: u64, expected: u64) {
+    let waited = hub::wait::wait(Hub::fresh(), micros);
+    let decided = waited.decided;
+    let answer = decided.answer;
+    let got = match answer {
+        Answer::Refused(number) => number,
+        Answer::Taken => 0,
+        Answer::Reply(_, _) => 0,
+    };
+    say(b"wait ");
+    say_number(micros);
+    say(b": expected refusal ");
+    say_number(expected);
+    say(b", got ");
+    say_number(got);
+    say_verdict(expected == got);
+}
+
 fn main() {
     faults();
     accepted();
     many_pairs();
     sixteen_pairs();
     long_lines();
+    limits();
+    wait_vector(1000000000, 0);
+    wait_vector(1000000001, 103);
 }

@@ -119,7 +119,7 @@ impl Hub {
 }
 
 pub mod calls;
-pub mod connectors;
+mod connectors;
 pub mod line;
-pub mod send;
+mod send;
 pub mod wait;

@@ -1,9 +1,9 @@
 -- Document 01: "going through the expanded pairs in order, the first 15 distinct pairs get A to O as each first occurs."
-use Prim.Native.Nat.{ℕ, suc, _≤_}
+use Prim.Native.Nat.{ℕ, suc, _+_, _≤_}
 use mathlib.Core.Path.{_≡_}
 use mathlib.Core.Bool.{Bool, true, false, cond}
 use mathlib.Core.List.{List, [], _∷_, _++_}
-use lib.ListN.{length, take, replicate}
+use lib.ListN.{length, take, set, replicate}
 use lib.Dec.{ltb, eqb}
 use Rattle.code.specs.declared.Pair.{Pair}
 use Rattle.code.specs.declared.letters.Letters.{Letters}
@@ -44,3 +44,13 @@ pub record Kept (letters : Letters) (pairs : List Pair) : Type 0 where
   pub few : letters .count ≤ 15
   pub counted : length (held letters) ≡ letters .count
   pub are : held letters ≡ pairs
+
+-- the record after one pair more: a new pair stands behind the others, and nothing else moves
+unfoldable pub learntLetters : Letters → Pair → Letters
+learntLetters t p =
+    cond (ltb (placeOf p (held t)) (t .count)) t
+    (cond (ltb (t .count) 15) (record { count = t .count + 1; pairs = set (t .pairs) (t .count) p }) t)
+
+pub record Learns (t : Letters) (p : Pair) (r : Letters) : Type 0 where
+  pub result : r ≡ learntLetters t p
+  pub kept : Kept r (learnt (held t) p)

@@ -4,7 +4,7 @@ use crate::Pair;
 ghost use mathlib.Core.Path.{_≡_};
 ghost use Prim.Native.Nat.{_≤_};
 ghost use lib.ListN.{length};
-ghost use Rattle.code.specs.Letters.{noLetters, samePair, placeOf, learnt, held, Kept};
+ghost use Rattle.code.specs.Letters.{noLetters, samePair, placeOf, held, Learns};
 
 pub struct Letters {
     pub count: usize,
@@ -49,7 +49,7 @@ pub fn place_of(letters: Letters, p: Pair) -> usize
 // The letters after one pair more.
 pub fn learn(letters: Letters, p: Pair) -> Letters
     requires { ⌜ letters .count ≤ 15 ⌝ }
-    ensures { λ r. ⌜ Kept r (learnt (held letters) p) ⌝ }
+    ensures { λ r. ⌜ Learns letters p r ⌝ }
 {
     let count = letters.count;
     if place_of(letters, p) < count {

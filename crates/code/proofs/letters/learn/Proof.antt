@@ -1,5 +1,7 @@
 use mathlib.Core.Path.{_≡_, sym, _∙_}
 use lib.ListN.{length, length-map}
+use borrow.Author.Tests.{lt-ltb, le-ltb}
+use Rattle.code.specs.Letters.{learntLetters}
 use Rattle.code.proofs.Lettering.{learn-known, learn-full, learn-new}
 use borrow.Author.Needs.{needs}
 use Rattle.code.proofs.letters.learn.Statement.{statement}
@@ -12,7 +14,13 @@ place-of-requires : tie.Need-place-of-requires
 place-of-requires c κs = search needs
 
 returns : tie.Need-returns
-returns c = learn-known _ _ (long (c .before .before)) (c .before .before .pre) (rw (c .before .place-of .ensures) at (c .if1 .taken))
+unfolding learntLetters
+returns c =
+    let known = rw (c .before .place-of .ensures) at (c .if1 .taken) in
+    record {
+      result = rw (lt-ltb _ _ known);
+      kept = learn-known _ _ (long (c .before .before)) (c .before .before .pre) known;
+    }
 
 mul-pairs : tie.Need-mul-pairs
 mul-pairs c = search needs
@@ -24,10 +32,22 @@ add-t8 : tie.Need-add-t8
 add-t8 c = search needs
 
 returns-2 : tie.Need-returns-2
-returns-2 c = learn-new _ _ (long (c .before .before .before .before)) (c .before .before .before .before .pre) (rw (c .before .before .before .place-of .ensures) at (c .before .before .if1 .left)) (c .before .if2 .taken)
+unfolding learntLetters
+returns-2 c =
+    let new = rw (c .before .before .before .place-of .ensures) at (c .before .before .if1 .left) in
+    record {
+      result = rw (le-ltb _ _ new, lt-ltb _ _ (c .before .if2 .taken));
+      kept = learn-new _ _ (long (c .before .before .before .before)) (c .before .before .before .before .pre) new (c .before .if2 .taken);
+    }
 
 returns-3 : tie.Need-returns-3
-returns-3 c = learn-full _ _ (long (c .before .before .before)) (c .before .before .before .pre) (rw (c .before .before .place-of .ensures) at (c .before .if1 .left)) (c .if2 .left)
+unfolding learntLetters
+returns-3 c =
+    let new = rw (c .before .before .place-of .ensures) at (c .before .if1 .left) in
+    record {
+      result = rw (le-ltb _ _ new, le-ltb _ _ (c .if2 .left));
+      kept = learn-full _ _ (long (c .before .before .before)) (c .before .before .before .pre) new (c .if2 .left);
+    }
 
 pub learn-spec : {M : Type 1} → statement M
 learn-spec =

@@ -59,7 +59,7 @@ loop-less : tie.Need-loop-less Inv-loop μ-loop
 loop-less c = omega (arith, going-sound (c .before .before .before .before .before .loop .inv) (sym (c .before .before .before .before .next-pair .ensures) ∙ c .before .before .on .given .1) .0)
 
 loop-again : tie.Need-loop-again Inv-loop μ-loop
-loop-again c = going-spelled (c .before .before .before .before .before .loop .inv) (sym (c .before .before .before .before .next-pair .ensures) ∙ c .before .before .on .given .1) (c .learn .ensures)
+loop-again c = going-spelled (c .before .before .before .before .before .loop .inv) (sym (c .before .before .before .before .next-pair .ensures) ∙ c .before .before .on .given .1) (c .learn .ensures .kept)
 
 enum-known-i : tie.Need-enum-known-i Inv-loop μ-loop
 enum-known-i c = search needs

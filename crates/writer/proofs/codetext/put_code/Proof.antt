@@ -69,7 +69,7 @@ loop-less-2 : tie.Need-loop-less-2 Inv-loop μ-loop
 loop-less-2 c = search needs
 
 loop-again-2 : tie.Need-loop-again-2 Inv-loop μ-loop
-loop-again-2 c = writing-spelled (c .before .before .before .before .before .before .before .before .before .before .loop .inv) (c .before .before .before .before .before .before .before .before .before .loop-test .taken) (c .before .before .before .before .before .before .before .place-of .ensures) (rw (c .before .before .before .before .before .before .in-use .ensures) at (c .before .before .before .before .before .if1 .left)) (c .before .before .before .put-spelled .ensures) (c .before .before .before .put-spelled .kept .0) (c .learn .ensures)
+loop-again-2 c = writing-spelled (c .before .before .before .before .before .before .before .before .before .before .loop .inv) (c .before .before .before .before .before .before .before .before .before .loop-test .taken) (c .before .before .before .before .before .before .before .place-of .ensures) (rw (c .before .before .before .before .before .before .in-use .ensures) at (c .before .before .before .before .before .if1 .left)) (c .before .before .before .put-spelled .ensures) (c .before .before .before .put-spelled .kept .0) (c .learn .ensures .kept)
 
 same-length : tie.Need-same-length Inv-loop μ-loop
 same-length c = search needs

@@ -1,34 +1,26 @@
--- The contact: unread at first and after a change of mode, answered 028 then, and with its last reading otherwise.
+-- The contact: unread at first, answered 028 while it is, and with its last reading otherwise.
 use Prim.Native.Nat.{ℕ, _-_, _<_}
 use mathlib.Core.Path.{_≡_, ap}
-use mathlib.Core.Bool.{true, false, not}
+use mathlib.Core.Bool.{not}
 use lib.ListN.{getD-replicate}
 use Rattle.laws.proofs.Choice.{cond-case}
-use Rattle.request.specs.declared.mode.Mode.{Mode}
 use Rattle.request.specs.declared.mode.Mode.the-variants.{Sensor}
 use Rattle.reply.specs.declared.Reply.the-variants.{State}
-use Rattle.hub.specs.declared.Owner.the-variants.{Nobody}
+use Rattle.connector.specs.declared.Owner.the-variants.{Nobody}
+use Rattle.connector.specs.declared.Contact.{Contact}
+use Rattle.connector.specs.declared.Contact.the-variants.{Unread, Read}
+use Rattle.connector.specs.declared.Connector.{Connector}
+use Rattle.connector.specs.Record.{freshConnector}
+use Rattle.connector.specs.Send.{transmitsNot}
 use Rattle.hub.specs.declared.Answer.the-variants.{Reply}
-use Rattle.hub.specs.declared.Contact.{Contact}
-use Rattle.hub.specs.declared.Contact.the-variants.{Unread, Read}
-use Rattle.hub.specs.declared.Connector.{Connector}
 use Rattle.hub.specs.declared.Decided.{Decided}
 use Rattle.hub.specs.declared.Hub.{Hub}
-use Rattle.hub.specs.Record.{freshConnector, freshHub, connectorAt}
-use Rattle.hub.specs.Connectors.{sameMode, withMode}
-use Rattle.hub.specs.Send.{error, transmitsNot}
+use Rattle.hub.specs.Record.{freshHub, connectorAt}
+use Rattle.hub.specs.Send.{error}
 use Rattle.hub.specs.Line.{replied, contactAnswer, getContact}
 
 pub fresh-unread : (slot : ℕ) → slot < 3 → connectorAt freshHub slot .contact ≡ Unread
 fresh-unread slot less = ap (λ (c : Connector). c .contact) (getD-replicate 3 slot freshConnector freshConnector less)
-
-pub mode-unread : (c : Connector) (m : Mode) → sameMode (c .mode) m ≡ false → withMode c m .contact ≡ Unread
-unfolding withMode
-mode-unread c m e = rw e
-
-pub mode-again : (c : Connector) (m : Mode) → sameMode (c .mode) m ≡ true → withMode c m ≡ c
-unfolding withMode
-mode-again c m e = rw e
 
 pub unread-028 : (h : Hub) (port : ℕ) → connectorAt h (port - 1) .mode ≡ Sensor → connectorAt h (port - 1) .contact ≡ Unread
     → getContact h port ≡ error h 28 1 port

@@ -1,21 +1,17 @@
 -- Soundness of the hub: a fresh one has it, and every call keeps it.
-use Prim.Native.Nat.{ℕ, zero, suc, _+_, _-_, _*_, _/_, _≤_, _<_}
+use Prim.Native.Nat.{ℕ, zero, suc, _-_, _*_, _≤_, _<_}
 use mathlib.Core.Path.{_≡_, refl}
 use mathlib.Core.Bool.{not}
 use mathlib.Core.List.{List, [], _∷_}
 use native.Mathlib.Omega.{arith}
-use borrow.Author.Tests.{ltb-true, ltb-false, leb-false}
-use lib.Dec.{ltb, leb}
-use lib.ListN.{length, getD, set, take, drop, getD-replicate}
+use borrow.Author.Tests.{ltb-true, ltb-false}
+use lib.Dec.{ltb}
+use lib.ListN.{length, getD, set, getD-replicate}
 use Rattle.laws.proofs.Choice.{cond-case}
 use Rattle.code.specs.declared.Pair.{Pair}
 use Rattle.code.specs.Limits.{offsetWithin}
 use Rattle.code.specs.Read.{Reading, pairs, fault, readCode}
-use Rattle.code.proofs.Accepted.{Accepted, accepted}
-use Rattle.pace.specs.declared.Pace.{Pace}
-use Rattle.pace.specs.declared.Passed.{Passed}
-use Rattle.pace.specs.Pace.{SoundPace, periodsOf, endOf, passed}
-use Rattle.pace.proofs.Keeps.{started-sound, renewed-sound, moved-sound}
+use Rattle.code.proofs.Accepted.{accepted}
 use Rattle.request.specs.declared.mode.Mode.{Mode}
 use Rattle.request.specs.declared.fields.Fields.{Fields}
 use Rattle.request.specs.declared.fields.Sent.{Sent}
@@ -25,31 +21,26 @@ use Rattle.request.specs.declared.Request.the-variants as request
 use Rattle.request.specs.Request.{readRequest}
 use Rattle.request.specs.Accepted.{FieldsWithin, SentWithin, Within}
 use Rattle.request.proofs.Accepted.{within}
-use Rattle.hub.specs.declared.Owner.{Owner}
-use Rattle.hub.specs.declared.Owner.the-variants.{Nobody}
-use Rattle.hub.specs.declared.Contact.{Contact}
-use Rattle.hub.specs.declared.Contact.the-variants.{Unread, Read}
-use Rattle.hub.specs.declared.Run.{Run}
-use Rattle.hub.specs.declared.Sending.{Sending}
-use Rattle.hub.specs.declared.Sending.the-variants.{Idle, Running}
-use Rattle.hub.specs.declared.Connector.{Connector}
+use Rattle.connector.specs.declared.Contact.{Contact}
+use Rattle.connector.specs.declared.Contact.the-variants.{Unread, Read}
+use Rattle.connector.specs.declared.Connector.{Connector}
+use Rattle.connector.specs.declared.judge.Verdict.{Verdict}
+use Rattle.connector.specs.declared.judge.Verdict.the-variants as verdict
+use Rattle.connector.specs.Record.{freshConnector, SoundRun, SoundConnector}
+use Rattle.connector.specs.Change.{isRunning}
+use Rattle.connector.specs.Send.{runOf, verdictOf, transmitsNot}
+use Rattle.connector.proofs.Keeps.{fresh-connector, reading-connector, mode-connector, stopped-connector, disowned-connector, started-connector}
+use Rattle.connector.proofs.Keeps.{renewed-connector, passed-connector, run-sound}
 use Rattle.hub.specs.declared.Decided.{Decided}
 use Rattle.hub.specs.declared.Waited.{Waited}
 use Rattle.hub.specs.declared.Hub.{Hub}
-use Rattle.hub.specs.declared.send.Verdict.{Verdict}
-use Rattle.hub.specs.declared.send.Verdict.the-variants as verdict
-use Rattle.hub.specs.Record.{freshConnector, freshHub, connectorAt, withConnector, withRelay, SoundRun, SoundSending, SoundConnector, SoundHub}
-use Rattle.hub.specs.Connectors.{sameMode, withMode, withReading, renewedSending, renewed, stopped, owns, toldOf, disowned}
-use Rattle.hub.specs.Send.{Step, runOf, byVerdict, verdictOf, sendStep, codeRead, codeStep, transmitsNot, fieldsRead, sentStep}
-use Rattle.hub.specs.Line.{isRunning, setIr, contactAnswer, getContact, stopIr, askedStep, lineStep, overlongStep}
+use Rattle.hub.specs.Record.{freshHub, connectorAt, withConnector, withRelay, SoundHub}
+use Rattle.hub.specs.Send.{Step, byVerdict, sendStep, codeRead, codeStep, fieldsRead, sentStep}
+use Rattle.hub.specs.Line.{setIr, contactAnswer, getContact, stopIr, askedStep, lineStep, overlongStep}
 use Rattle.hub.specs.Calls.{readingStep, closedStep}
-use Rattle.hub.specs.Wait.{pacedRun, passedRun, passedSending, passedConnector, waitedStep}
-use Rattle.hub.proofs.Lasting.{lead-high, tail-high, tail-low}
+use Rattle.hub.specs.Wait.{waitedStep}
 
 -- ---- one connector in a hub
-
-fresh-connector : SoundConnector freshConnector
-fresh-connector = record { sends = refl; reads = tt }
 
 pub fresh-sound : SoundHub freshHub
 fresh-sound =
@@ -90,69 +81,6 @@ three-sound {h} {a} {b} {c} s x y z = record { each = each; relays = s .relays }
     each (suc zero) h = y
     each (suc (suc zero)) h = z
     each (suc (suc (suc slot))) h = fresh-connector
-
--- ---- what becomes of one connector
-
-reading-connector : {c : Connector} {value : ℕ} → SoundConnector c → value ≤ 1 → SoundConnector (withReading c value)
-reading-connector k v = record { sends = k .sends; reads = v }
-
-mode-connector : (c : Connector) (mode : Mode) → SoundConnector c → SoundConnector (withMode c mode)
-unfolding withMode
-mode-connector c mode k =
-    cond-case SoundConnector (sameMode (c .mode) mode) c _ (λ _. k) (λ _. record { sends = k .sends; reads = tt })
-
-stopped-connector : {c : Connector} → SoundConnector c → SoundConnector (stopped c)
-stopped-connector k = record { sends = refl; reads = k .reads }
-
-disowned-sends : (sending : Sending) (owner : Owner) (connection : ℕ) → SoundSending sending owner
-    → SoundSending sending (toldOf owner connection)
-unfolding toldOf
-disowned-sends Idle owner connection s =
-    cond-case (λ (o : Owner). o ≡ Nobody) (owns owner connection) Nobody owner (λ _. refl) (λ _. s)
-disowned-sends (Running r) owner connection s = s
-
-disowned-connector : (c : Connector) (connection : ℕ) → SoundConnector c → SoundConnector (disowned c connection)
-disowned-connector c connection k =
-    record { sends = disowned-sends (c .sending) (c .owner) connection (k .sends); reads = k .reads }
-
--- the same transmission, further on
-paced-run : {r : Run} {p : Pace} → SoundRun r → SoundPace p → SoundRun (pacedRun r p)
-paced-run s paced =
-    record {
-      paced = paced;
-      freq-low = s .freq-low;
-      freq-high = s .freq-high;
-      repeat-low = s .repeat-low;
-      repeat-high = s .repeat-high;
-      few = s .few;
-    }
-
-renewed-connector : (c : Connector) → SoundConnector c → SoundConnector (renewed c)
-renewed-connector c k = go (c .sending) (k .sends)
-  where
-    go : (sending : Sending) → SoundSending sending (c .owner) → SoundConnector (renewedSending c sending)
-    go Idle s = k
-    go (Running r) s =
-        record {
-          sends = paced-run s (renewed-sound (s .paced) (s .repeat-low) (s .repeat-high));
-          reads = k .reads;
-        }
-
-passed-connector : (c : Connector) (port n : ℕ) → SoundConnector c → SoundConnector (passedConnector c port n .connector)
-unfolding passed
-passed-connector c port n k = go (c .sending) (k .sends)
-  where
-    go : (sending : Sending) → SoundSending sending (c .owner) → SoundConnector (passedSending c port n sending .connector)
-    go Idle s = k
-    go (Running r) s =
-        cond-case (λ (x : Passed). SoundConnector (passedRun c port r x .connector))
-        (leb (endOf (r .pace)) (r .pace .at .0 + n * r .fields .freq)) _ _
-        (λ _. stopped-connector k)
-        (λ e.
-        record {
-          sends = paced-run s (moved-sound (r .fields .freq) n (s .paced) (leb-false _ _ e));
-          reads = k .reads;
-        })
 
 -- ---- the calls beside lines
 
@@ -198,22 +126,6 @@ overlong-sound h connection room s =
 
 -- ---- lines
 
--- what a sendir starts
-run-sound : (f : Fields) (ps : List Pair) → FieldsWithin f → Accepted (f .freq) ps → f .offset < 2 * length ps → SoundRun (runOf f ps)
-unfolding runOf
-run-sound f ps w a inside =
-    let k = f .offset / 2 in
-    record {
-      paced =
-          started-sound (periodsOf (take k ps)) (periodsOf (drop k ps)) (f .repeat) (lead-high a k)
-          (tail-low a k (omega arith)) (tail-high a k) (w .repeat-least) (w .repeat-most);
-      freq-low = w .freq-least;
-      freq-high = w .freq-most;
-      repeat-low = w .repeat-least;
-      repeat-high = w .repeat-most;
-      few = a .most;
-    }
-
 abbrev SoundStep : Step → Type 0
 SoundStep step = SoundAfter (step .decided)
 
@@ -229,7 +141,7 @@ module _ (h : Hub) (store : List ℕ) (connection : ℕ) (text : List ℕ) (s : 
       k = s .each (port - 1) (omega arith)
 
       go : (v : Verdict) → SoundStep (byVerdict h store connection port f ps v)
-      go verdict.Start = set-sound (port - 1) s (record { sends = r; reads = k .reads })
+      go verdict.Start = set-sound (port - 1) s (started-connector k r)
       go verdict.Renew = set-sound (port - 1) s (renewed-connector (connectorAt h (port - 1)) k)
       go verdict.Busy = s
 

@@ -16,15 +16,17 @@ use Rattle.request.specs.declared.fields.Sent.the-variants as sent
 use Rattle.request.specs.declared.Request.{Request}
 use Rattle.request.specs.declared.Request.the-variants as request
 use Rattle.request.specs.Request.{readRequest}
-use Rattle.hub.specs.declared.Contact.{Contact}
-use Rattle.hub.specs.declared.Contact.the-variants.{Unread, Read}
+use Rattle.connector.specs.declared.Contact.{Contact}
+use Rattle.connector.specs.declared.Contact.the-variants.{Unread, Read}
+use Rattle.connector.specs.declared.judge.Verdict.{Verdict}
+use Rattle.connector.specs.declared.judge.Verdict.the-variants as verdict
+use Rattle.connector.specs.Change.{isRunning}
+use Rattle.connector.specs.Send.{verdictOf, transmitsNot}
 use Rattle.hub.specs.declared.Waited.{Waited}
 use Rattle.hub.specs.declared.Hub.{Hub}
-use Rattle.hub.specs.declared.send.Verdict.{Verdict}
-use Rattle.hub.specs.declared.send.Verdict.the-variants as verdict
 use Rattle.hub.specs.Record.{connectorAt}
-use Rattle.hub.specs.Send.{byVerdict, verdictOf, sendStep, codeRead, codeStep, transmitsNot, fieldsRead, sentStep}
-use Rattle.hub.specs.Line.{isRunning, setIr, contactAnswer, getContact, stopIr, askedStep, lineStep, overlongStep}
+use Rattle.hub.specs.Send.{byVerdict, sendStep, codeRead, codeStep, fieldsRead, sentStep}
+use Rattle.hub.specs.Line.{setIr, contactAnswer, getContact, stopIr, askedStep, lineStep, overlongStep}
 use Rattle.hub.specs.Calls.{readingStep, closedStep}
 use Rattle.hub.specs.Wait.{waitedStep}
 use Rattle.hub.specs.Refusals.{KeepsHub, KeepsBoth}

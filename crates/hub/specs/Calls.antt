@@ -1,27 +1,25 @@
 -- The calls beside lines that take no time, and the question about the carriers.
 use Prim.Native.Nat.{ℕ, _-_}
 use mathlib.Core.Path.{_≡_}
-use mathlib.Core.Bool.{Bool, true, false, cond, not}
+use mathlib.Core.Bool.{Bool, cond, not}
 use mathlib.Core.List.{List, [], _∷_}
 use lib.Dec.{ltb}
 use lib.ListN.{length}
 use lib.Seq.{sets}
 use Rattle.laws.specs.Checks.{_⇒_, first}
-use Rattle.pace.specs.Pace.{placeOf}
-use Rattle.store.specs.Store.{slotCounts, onAt}
 use Rattle.reply.specs.declared.Reply.the-variants.{Complete}
 use Rattle.reply.specs.Reply.{replyText}
+use Rattle.connector.specs.declared.Completion.{Completion}
+use Rattle.connector.specs.Change.{withReading, disowned}
+use Rattle.connector.specs.Send.{transmitsNot}
+use Rattle.connector.specs.Carrier.{carrierOf}
 use Rattle.hub.specs.declared.Answer.the-variants as answer
-use Rattle.hub.specs.declared.Completion.{Completion}
 use Rattle.hub.specs.declared.Decided.{Decided}
-use Rattle.hub.specs.declared.Sending.{Sending}
-use Rattle.hub.specs.declared.Sending.the-variants.{Idle, Running}
 use Rattle.hub.specs.declared.Hub.{Hub}
 use Rattle.hub.specs.declared.Written.{Written}
 use Rattle.hub.specs.declared.Written.the-variants.{Refused, Line}
 use Rattle.hub.specs.Record.{connectorAt, withConnector}
-use Rattle.hub.specs.Connectors.{withReading, disowned}
-use Rattle.hub.specs.Send.{decidedAs, transmitsNot}
+use Rattle.hub.specs.Send.{decidedAs}
 
 -- "Calls themselves refuse with a number, nothing written and nothing changed"
 abbrev pub decidedRefusal : Hub → ℕ → Decided
@@ -48,11 +46,7 @@ closedHub h connection =
 unfoldable pub closedStep : Hub → ℕ → Decided
 closedStep h connection = cond (ltb 7 connection) (decidedRefusal h 102) (decidedAs answer.Taken (closedHub h connection))
 
--- "for each connector whether its carrier is on now, off where nothing is transmitted"
-abbrev pub carrierOf : List ℕ → ℕ → Sending → Bool
-carrierOf store slot Idle = false
-carrierOf store slot (Running r) = onAt true (slotCounts store slot (r .count)) (placeOf (r .pace))
-
+-- "for each connector whether its carrier is on now"
 abbrev pub carriersOf : Hub → List ℕ → List Bool
 carriersOf h store =
     carrierOf store 0 (connectorAt h 0 .sending) ∷ carrierOf store 1 (connectorAt h 1 .sending) ∷ carrierOf store 2 (connectorAt h 2 .sending) ∷ []

@@ -1,5 +1,4 @@
 pub mod Record
-pub mod Connectors
 pub mod Send
 pub mod Line
 pub mod Calls

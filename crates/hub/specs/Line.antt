@@ -3,7 +3,7 @@
 -- reading of the line.
 use Prim.Native.Nat.{ℕ, _-_}
 use mathlib.Core.Path.{_≡_}
-use mathlib.Core.Bool.{Bool, true, false, cond, not}
+use mathlib.Core.Bool.{cond, not}
 use mathlib.Core.List.{List, [], _∷_}
 use lib.Dec.{ltb}
 use lib.ListN.{length}
@@ -16,24 +16,18 @@ use Rattle.request.specs.Request.{readRequest}
 use Rattle.reply.specs.declared.Reply.{Reply}
 use Rattle.reply.specs.declared.Reply.the-variants as reply
 use Rattle.reply.specs.Reply.{replyText}
-use Rattle.hub.specs.declared.Owner.{Owner}
-use Rattle.hub.specs.declared.Owner.the-variants.{Nobody}
-use Rattle.hub.specs.declared.Contact.{Contact}
-use Rattle.hub.specs.declared.Contact.the-variants.{Unread, Read}
+use Rattle.connector.specs.declared.Owner.the-variants.{Nobody}
+use Rattle.connector.specs.declared.Contact.{Contact}
+use Rattle.connector.specs.declared.Contact.the-variants.{Unread, Read}
+use Rattle.connector.specs.Change.{isRunning, withMode, stopped, toldOf}
+use Rattle.connector.specs.Send.{transmitsNot}
 use Rattle.hub.specs.declared.Answer.{Answer}
 use Rattle.hub.specs.declared.Answer.the-variants as answer
 use Rattle.hub.specs.declared.Decided.{Decided}
 use Rattle.hub.specs.declared.Answered.{Answered}
-use Rattle.hub.specs.declared.Sending.{Sending}
-use Rattle.hub.specs.declared.Sending.the-variants.{Idle, Running}
 use Rattle.hub.specs.declared.Hub.{Hub}
 use Rattle.hub.specs.Record.{connectorAt, relayAt, withConnector, withRelay}
-use Rattle.hub.specs.Connectors.{withMode, stopped, toldOf}
-use Rattle.hub.specs.Send.{Step, decidedAs, error, unchanged, transmitsNot, sentStep}
-
-abbrev pub isRunning : Sending → Bool
-isRunning Idle = false
-isRunning (Running r) = true
+use Rattle.hub.specs.Send.{Step, decidedAs, error, unchanged, sentStep}
 
 -- a reply for the asker alone
 abbrev pub replied : Hub → Reply → Decided

@@ -1,17 +1,13 @@
 // The calls beside lines that take no time, and the question about the carriers.
 use crate::Answer;
-use crate::Completion;
-use crate::Connector;
 use crate::Decided;
 use crate::Hub;
-use crate::Sending;
 use crate::Written;
+use connector::Completion;
 use reply::Reply;
 ghost use mathlib.Core.Path.{_≡_};
-ghost use Prim.Native.Nat.{_<_};
-ghost use lib.ListN.{length};
-ghost use Rattle.hub.specs.Record.{SoundHub, SoundSending};
-ghost use Rattle.hub.specs.Calls.{decidedRefusal, readingStep, closedStep, carrierOf, carriersOf, CompletionWritten};
+ghost use Rattle.hub.specs.Record.{SoundHub};
+ghost use Rattle.hub.specs.Calls.{decidedRefusal, readingStep, closedStep, carriersOf, CompletionWritten};
 
 pub fn refused(hub: Hub, number: u64) -> Decided
     ensures { λ r. ⌜ r ≡ decidedRefusal hub number ⌝ }
@@ -32,19 +28,19 @@ pub fn reading(hub: Hub, port: u64, value: u64) -> Decided
     if 3 < port {
         return refused(hub, 104);
     }
-    let slot = crate::connectors::slot_of(port);
+    let slot = crate::slots::slot_of(port);
     let c = hub.connectors[slot];
     let mode = c.mode;
-    if !crate::send::transmits_not(mode) {
+    if !connector::change::transmits_not(mode) {
         return refused(hub, 104);
     }
     if 1 < value {
         return refused(hub, 104);
     }
-    let next = crate::connectors::with_reading(c, value);
+    let next = connector::change::with_reading(c, value);
     Decided {
         answer: Answer::Taken,
-        hub: crate::connectors::put_connector(hub, slot, next),
+        hub: crate::slots::put_connector(hub, slot, next),
     }
 }
 
@@ -55,9 +51,9 @@ pub fn closed(hub: Hub, connection: u64) -> Decided
     if Hub::MOST_CONNECTION < connection {
         return refused(hub, 102);
     }
-    let a = crate::connectors::disowned(hub.connectors[0], connection);
-    let b = crate::connectors::disowned(hub.connectors[1], connection);
-    let c = crate::connectors::disowned(hub.connectors[2], connection);
+    let a = connector::change::disowned(hub.connectors[0], connection);
+    let b = connector::change::disowned(hub.connectors[1], connection);
+    let c = connector::change::disowned(hub.connectors[2], connection);
     let connectors = [a, b, c];
     let relays = hub.relays;
     Decided {
@@ -66,29 +62,14 @@ pub fn closed(hub: Hub, connection: u64) -> Decided
     }
 }
 
-fn carrier_of(store: &[u16; 1560], slot: usize, c: Connector) -> bool
-    requires { ⌜ SoundSending (c .sending) (c .owner) × (slot < 3) ⌝ }
-    ensures { λ r. ⌜ r ≡ carrierOf (now (store .entry)) slot (c .sending) ⌝ }
-{
-    let sending = c.sending;
-    match sending {
-        Sending::Idle => false,
-        Sending::Running(run) => {
-            let pace = run.pace;
-            let place = pace.place();
-            store::carrier(store, slot, run.count, place.0)
-        }
-    }
-}
-
 // Whether the carrier of each connector is on now. It changes nothing.
 pub fn carriers(hub: Hub, store: &[u16; 1560]) -> [bool; 3]
     requires { ⌜ SoundHub hub ⌝ }
     ensures { λ r. ⌜ r ≡ carriersOf hub (now (store .entry)) ⌝ }
 {
-    let a = carrier_of(store, 0, hub.connectors[0]);
-    let b = carrier_of(store, 1, hub.connectors[1]);
-    let c = carrier_of(store, 2, hub.connectors[2]);
+    let a = connector::carrier::carrier_of(store, 0, hub.connectors[0]);
+    let b = connector::carrier::carrier_of(store, 1, hub.connectors[1]);
+    let c = connector::carrier::carrier_of(store, 2, hub.connectors[2]);
     [a, b, c]
 }
 

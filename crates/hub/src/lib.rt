@@ -1,42 +1,14 @@
 // The hub: its record and its calls. The record is small and goes by value; the pairs of what is being sent stand in a lent array.
-use pace::Micros;
-use pace::Pace;
+pub use connector::Completion;
+pub use connector::Connector;
+pub use connector::Contact;
+pub use connector::Owner;
+pub use connector::Run;
+pub use connector::Sending;
+pub use connector::completions::Completions;
 use reply::Reply;
-use request::fields::Fields;
-use request::mode::Mode;
 ghost use mathlib.Core.Path.{_≡_};
-ghost use Rattle.hub.specs.Record.{freshConnector, freshHub};
-
-// Who hears of a transmission: a connection, or nobody.
-pub enum Owner {
-    Nobody,
-    Connection(u64),
-}
-
-// A contact: no reading since the hub or the mode began, or the last one.
-pub enum Contact {
-    Unread,
-    Read(u64),
-}
-
-// A transmission: the command's fields, its number of pairs, and how far it is.
-pub struct Run {
-    pub fields: Fields,
-    pub count: usize,
-    pub pace: Pace,
-}
-
-pub enum Sending {
-    Idle,
-    Running(Run),
-}
-
-pub struct Connector {
-    pub owner: Owner,
-    pub mode: Mode,
-    pub contact: Contact,
-    pub sending: Sending,
-}
+ghost use Rattle.hub.specs.Record.{freshHub};
 
 pub struct Hub {
     pub connectors: [Connector; 3],
@@ -63,20 +35,6 @@ pub struct Answered {
     pub size: usize,
 }
 
-// A transmission that is complete: when, counted from the wait's start, on which connector, and for whom.
-pub struct Completion {
-    pub owner: Owner,
-    pub moment: Micros,
-    pub port: u64,
-    pub id: u64,
-}
-
-// The completions of a wait in their order; those behind the count are none.
-pub struct Completions {
-    pub count: usize,
-    pub items: [Completion; 3],
-}
-
 // What a wait is answered, with the hub after it.
 pub struct Waited {
     pub decided: Decided,
@@ -87,19 +45,6 @@ pub struct Waited {
 pub enum Written {
     Refused(u64),
     Line(usize),
-}
-
-impl Connector {
-    pub fn fresh() -> Self
-        ensures { λ r. ⌜ r ≡ freshConnector ⌝ }
-    {
-        Connector {
-            owner: Owner::Nobody,
-            mode: Mode::Ir,
-            contact: Contact::Unread,
-            sending: Sending::Idle,
-        }
-    }
 }
 
 impl Hub {
@@ -119,7 +64,7 @@ impl Hub {
 }
 
 pub mod calls;
-mod connectors;
 pub mod line;
 mod send;
+mod slots;
 pub mod wait;

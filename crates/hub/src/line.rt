@@ -1,12 +1,11 @@
 // A line of bytes from a connection.
 use crate::Answer;
 use crate::Answered;
-use crate::Contact;
 use crate::Decided;
 use crate::Hub;
-use crate::Owner;
-use crate::Sending;
 use crate::send::error;
+use connector::Contact;
+use connector::Owner;
 use reply::Reply;
 use request::Request;
 use request::mode::Mode;
@@ -16,16 +15,7 @@ ghost use lib.ListN.{length};
 ghost use Rattle.request.specs.Accepted.{PortWithin, Within};
 ghost use Rattle.hub.specs.Record.{SoundHub};
 ghost use Rattle.hub.specs.Send.{Decides};
-ghost use Rattle.hub.specs.Line.{isRunning, replied, refusedCall, setIr, getIr, setState, getRelay, getContact, stopIr, askedStep, Writes, Answers, lineStep, overlongStep};
-
-fn is_running(sending: Sending) -> bool
-    ensures { λ r. ⌜ r ≡ isRunning sending ⌝ }
-{
-    match sending {
-        Sending::Idle => false,
-        Sending::Running(_) => true,
-    }
-}
+ghost use Rattle.hub.specs.Line.{replied, refusedCall, setIr, getIr, setState, getRelay, getContact, stopIr, askedStep, Writes, Answers, lineStep, overlongStep};
 
 // A reply for the asker alone.
 fn replied(hub: Hub, reply: Reply) -> Decided
@@ -41,15 +31,15 @@ fn set_ir(hub: Hub, port: u64, mode: Mode) -> Decided
     requires { ⌜ PortWithin port ⌝ }
     ensures { λ r. ⌜ r ≡ setIr hub port mode ⌝ }
 {
-    let slot = crate::connectors::slot_of(port);
+    let slot = crate::slots::slot_of(port);
     let c = hub.connectors[slot];
     let sending = c.sending;
-    if is_running(sending) {
+    if connector::change::is_running(sending) {
         return error(hub, 29, 1, port);
     }
-    let next = crate::connectors::with_mode(c, mode);
+    let next = connector::change::with_mode(c, mode);
     replied(
-        crate::connectors::put_connector(hub, slot, next),
+        crate::slots::put_connector(hub, slot, next),
         Reply::Mode(port, mode),
     )
 }
@@ -58,7 +48,7 @@ fn get_ir(hub: Hub, port: u64) -> Decided
     requires { ⌜ PortWithin port ⌝ }
     ensures { λ r. ⌜ r ≡ getIr hub port ⌝ }
 {
-    let slot = crate::connectors::slot_of(port);
+    let slot = crate::slots::slot_of(port);
     let c = hub.connectors[slot];
     let mode = c.mode;
     replied(hub, Reply::Mode(port, mode))
@@ -68,9 +58,9 @@ fn set_state(hub: Hub, port: u64, state: u64) -> Decided
     requires { ⌜ PortWithin port ⌝ }
     ensures { λ r. ⌜ r ≡ setState hub port state ⌝ }
 {
-    let slot = crate::connectors::slot_of(port);
+    let slot = crate::slots::slot_of(port);
     replied(
-        crate::connectors::put_relay(hub, slot, state),
+        crate::slots::put_relay(hub, slot, state),
         Reply::State(2, port, state),
     )
 }
@@ -79,7 +69,7 @@ fn get_relay(hub: Hub, port: u64) -> Decided
     requires { ⌜ PortWithin port ⌝ }
     ensures { λ r. ⌜ r ≡ getRelay hub port ⌝ }
 {
-    let slot = crate::connectors::slot_of(port);
+    let slot = crate::slots::slot_of(port);
     replied(hub, Reply::State(2, port, hub.relays[slot]))
 }
 
@@ -87,10 +77,10 @@ fn get_contact(hub: Hub, port: u64) -> Decided
     requires { ⌜ PortWithin port ⌝ }
     ensures { λ r. ⌜ r ≡ getContact hub port ⌝ }
 {
-    let slot = crate::connectors::slot_of(port);
+    let slot = crate::slots::slot_of(port);
     let c = hub.connectors[slot];
     let mode = c.mode;
-    if !crate::send::transmits_not(mode) {
+    if !connector::change::transmits_not(mode) {
         return error(hub, 18, 1, port);
     }
     let contact = c.contact;
@@ -104,18 +94,18 @@ fn stop_ir(hub: Hub, connection: u64, port: u64) -> Decided
     requires { ⌜ PortWithin port ⌝ }
     ensures { λ r. ⌜ r ≡ stopIr hub connection port ⌝ }
 {
-    let slot = crate::connectors::slot_of(port);
+    let slot = crate::slots::slot_of(port);
     let c = hub.connectors[slot];
     let mode = c.mode;
-    if crate::send::transmits_not(mode) {
+    if connector::change::transmits_not(mode) {
         return error(hub, 13, 1, port);
     }
     let owner = c.owner;
-    let told = crate::connectors::told_of(owner, connection);
-    let next = crate::connectors::stopped(c);
+    let told = connector::change::told_of(owner, connection);
+    let next = connector::change::stopped(c);
     Decided {
         answer: Answer::Reply(Reply::Stopped(port), told),
-        hub: crate::connectors::put_connector(hub, slot, next),
+        hub: crate::slots::put_connector(hub, slot, next),
     }
 }
 

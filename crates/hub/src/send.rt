@@ -1,83 +1,21 @@
 // A sendir.
 use crate::Answer;
-use crate::Connector;
 use crate::Decided;
 use crate::Hub;
-use crate::Owner;
-use crate::Run;
-use crate::Sending;
 use code::Code;
 use code::CodeRead;
 use code::Pair;
-use pace::Pace;
+use connector::Owner;
+use connector::judge::Verdict;
 use reply::Reply;
 use request::fields::Fields;
 use request::fields::Sent;
-use request::mode::Mode;
 ghost use mathlib.Core.Path.{_≡_};
 ghost use Prim.Native.Nat.{_*_, _≤_, _<_};
-ghost use lib.ListN.{take, length};
+ghost use lib.ListN.{take};
 ghost use Rattle.request.specs.Accepted.{PortWithin, FieldsWithin, SentWithin};
-ghost use Rattle.hub.specs.Record.{connectorAt, SoundHub};
-ghost use Rattle.hub.specs.Send.{Decides, error, verdictOf, runOf, sentStep, codeStep, sendStep, transmitsNot};
-
-// What becomes of a sendir that has no fault.
-pub enum Verdict {
-    Start,
-    Renew,
-    Busy,
-}
-
-fn judge(
-    store: &[u16; 1560],
-    slot: usize,
-    c: Connector,
-    connection: u64,
-    f: Fields,
-    pairs: [Pair; Code::MOST_PAIRS],
-    count: usize,
-) -> Verdict
-    requires { ⌜ (slot < 3) × (count ≤ 260) ⌝ }
-    ensures { λ r. ⌜ r ≡ verdictOf (now (store .entry)) slot c connection f (take count pairs) ⌝ }
-{
-    let sending = c.sending;
-    match sending {
-        Sending::Idle => Verdict::Start,
-        Sending::Running(run) => {
-            let owner = c.owner;
-            if !crate::connectors::owns(owner, connection) {
-                return Verdict::Busy;
-            }
-            let fields = run.fields;
-            if !crate::connectors::same_fields(fields, f) {
-                return Verdict::Start;
-            }
-            if run.count != count {
-                return Verdict::Start;
-            }
-            if store::same(store, slot, pairs, count) {
-                Verdict::Renew
-            } else {
-                Verdict::Start
-            }
-        }
-    }
-}
-
-// The start of a transmission: the pairs before the offset, and those from it on in each copy.
-fn run_of(f: Fields, pairs: [Pair; Code::MOST_PAIRS], count: usize) -> Run
-    requires { ⌜ (count ≤ 260) × (f .offset < 2 * count) ⌝ }
-    ensures { λ r. ⌜ r ≡ runOf f (take count pairs) ⌝ }
-{
-    let before = (f.offset / 2) as usize;
-    let lead = pace::periods_of(pairs, 0, before);
-    let tail = pace::periods_of(pairs, before, count);
-    Run {
-        fields: f,
-        count,
-        pace: Pace::started(lead, tail, f.repeat),
-    }
-}
+ghost use Rattle.hub.specs.Record.{SoundHub};
+ghost use Rattle.hub.specs.Send.{Decides, error, sentStep, codeStep, sendStep};
 
 pub fn error(hub: Hub, number: u64, m: u64, port: u64) -> Decided
     ensures { λ r. ⌜ r ≡ error hub number m port ⌝ }
@@ -101,23 +39,23 @@ fn send(
     requires { ⌜ SoundHub hub × PortWithin port × (count ≤ 260) × (f .offset < 2 * count) ⌝ }
     ensures { λ r. ⌜ Decides (sendStep hub (now (store .entry)) connection port f (take count pairs)) r (now (store .exit)) ⌝ }
 {
-    let slot = crate::connectors::slot_of(port);
+    let slot = crate::slots::slot_of(port);
     let c = hub.connectors[slot];
-    match judge(store, slot, c, connection, f, pairs, count) {
+    match connector::judge::judge(store, slot, c, connection, f, pairs, count) {
         Verdict::Start => {
-            let run = run_of(f, pairs, count);
+            let run = connector::judge::run_of(f, pairs, count);
             store::keep(store, slot, pairs, count);
-            let next = crate::connectors::started(c, connection, run);
+            let next = connector::change::started(c, connection, run);
             Decided {
                 answer: Answer::Taken,
-                hub: crate::connectors::put_connector(hub, slot, next),
+                hub: crate::slots::put_connector(hub, slot, next),
             }
         }
         Verdict::Renew => {
-            let next = crate::connectors::renewed(c);
+            let next = connector::change::renewed(c);
             Decided {
                 answer: Answer::Taken,
-                hub: crate::connectors::put_connector(hub, slot, next),
+                hub: crate::slots::put_connector(hub, slot, next),
             }
         }
         Verdict::Busy => Decided {
@@ -154,17 +92,6 @@ fn coded(
     }
 }
 
-// Whether a connector in this mode transmits nothing ever.
-pub fn transmits_not(mode: Mode) -> bool
-    ensures { λ r. ⌜ r ≡ transmitsNot mode ⌝ }
-{
-    match mode {
-        Mode::Ir => false,
-        Mode::Sensor => true,
-        Mode::IrBlaster => false,
-    }
-}
-
 // A sendir: 013, then its fields' first fault, then its code.
 pub fn sent(
     hub: Hub,
@@ -177,10 +104,10 @@ pub fn sent(
     requires { ⌜ SoundHub hub × PortWithin port × SentWithin sent ⌝ }
     ensures { λ r. ⌜ Decides (sentStep hub (now (store .entry)) connection port sent (now (text .entry))) r (now (store .exit)) ⌝ }
 {
-    let slot = crate::connectors::slot_of(port);
+    let slot = crate::slots::slot_of(port);
     let c = hub.connectors[slot];
     let mode = c.mode;
-    if transmits_not(mode) {
+    if connector::change::transmits_not(mode) {
         return error(hub, 13, 1, port);
     }
     match sent {

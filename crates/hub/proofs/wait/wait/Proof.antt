@@ -1,8 +1,9 @@
 use mathlib.Core.List.{[]}
 use native.Mathlib.Omega.{arith}
 use borrow.Author.Tests.{lt-ltb, le-ltb}
-use Rattle.hub.specs.Wait.{waitedStep, joined}
-use Rattle.hub.proofs.Completing.{few-of-one, few-of-two}
+use Rattle.connector.specs.Completions.{joined}
+use Rattle.connector.proofs.Completing.{few-of-one, few-of-two}
+use Rattle.hub.specs.Wait.{waitedStep}
 use borrow.Author.Needs.{needs}
 use Rattle.hub.proofs.wait.wait.Statement.{statement}
 use Rattle.hub.proofs.wait.wait.Tie as tie

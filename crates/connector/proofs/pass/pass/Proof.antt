@@ -1,0 +1,47 @@
+use native.Mathlib.Omega.{arith}
+use borrow.Author.Needs.{needs}
+use Rattle.connector.proofs.pass.pass.Statement.{statement}
+use Rattle.connector.proofs.pass.pass.Tie as tie
+
+enum-told : tie.Need-enum-told
+enum-told c = search needs
+
+enum-known-sending : tie.Need-enum-known-sending
+enum-known-sending c = search needs
+
+passed-requires : tie.Need-passed-requires
+passed-requires c κs =
+    let s = rw (c .before .before .before .sending .given .1) at (c .before .before .before .before .before .pre .0) in
+    (s .paced, omega arith, s .freq-high, c .before .before .before .before .before .pre .1)
+
+enum-known-pace : tie.Need-enum-known-pace
+enum-known-pace c = search needs
+
+enum-known-moment : tie.Need-enum-known-moment
+enum-known-moment c = search needs
+
+stopped-requires : tie.Need-stopped-requires
+stopped-requires c κs = search needs
+
+returns : tie.Need-returns
+returns c = rw (c .enum-told .given .1)
+
+returns-2 : tie.Need-returns-2
+returns-2 c = rw (c .before .before .before .before .before .before .before .sending .given .1, ← c .before .before .before .passed .ensures, c .before .pace .given .1)
+
+returns-3 : tie.Need-returns-3
+returns-3 c = rw (c .before .before .before .before .before .before .before .before .sending .given .1, ← c .before .before .before .before .passed .ensures, c .before .before .moment .given .1, c .stopped .ensures)
+
+pub pass-spec : {M : Type 1} → statement M
+pass-spec =
+    tie.close
+    (tie.spec
+    enum-told
+    enum-known-sending
+    passed-requires
+    enum-known-pace
+    enum-known-moment
+    stopped-requires
+    returns
+    returns-2
+    returns-3)

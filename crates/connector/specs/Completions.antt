@@ -1,0 +1,50 @@
+-- The completions of a wait: "ordered by moment from the wait's start, then by port".
+use Prim.Native.Nat.{ℕ, _-_, _<_}
+use mathlib.Core.Path.{_≡_}
+use mathlib.Core.Logic.{_⊎_}
+use mathlib.Core.Bool.{cond}
+use mathlib.Core.List.{List, [], _∷_, _++_}
+use lib.Dec.{ltb}
+use lib.ListN.{length, replicate}
+use Rattle.pace.specs.Pace as pace
+use Rattle.connector.specs.declared.Owner.the-variants.{Nobody}
+use Rattle.connector.specs.declared.Completion.{Completion}
+use Rattle.connector.specs.declared.completions.Completions.{Completions}
+use Rattle.connector.specs.declared.pass.Done.{Done}
+use Rattle.connector.specs.declared.pass.Done.the-variants.{Nothing, Complete}
+
+-- behind those that are not later: inserted in the order of ports, the lower port stands first at equal moments
+abbrev pub inserted : Completion → List Completion → List Completion
+inserted x [] = x ∷ []
+inserted x (y ∷ l) = cond (ltb (x .moment .0) (y .moment .0)) (x ∷ y ∷ l) (y ∷ inserted x l)
+
+abbrev pub joined : Done → List Completion → List Completion
+joined Nothing l = l
+joined (Complete x) l = inserted x l
+
+abbrev pub noCompletion : Completion
+noCompletion = record { owner = Nobody; moment = pace.micros 0; port = 0; id = 0 }
+
+-- as the code keeps them
+abbrev pub completionsOf : List Completion → Completions
+completionsOf l = record { count = length l; items = l ++ replicate (3 - length l) noCompletion }
+
+abbrev pub threeOf : ℕ → Completion → Completion → Completion → Completions
+threeOf count a b c = record { count = count; items = a ∷ b ∷ c ∷ [] }
+
+-- ---- their order
+
+-- x is earlier than y, or at the same moment and on a lower port
+abbrev pub Before : Completion → Completion → Type 0
+Before x y = (x .moment .0 < y .moment .0) ⊎ ((x .moment .0 ≡ y .moment .0) × (x .port < y .port))
+
+-- of each two neighbours the former comes before the latter
+abbrev pub Sorted : List Completion → Type 0
+Sorted [] = Unit
+Sorted (x ∷ []) = Unit
+Sorted (x ∷ y ∷ l) = Before x y × Sorted (y ∷ l)
+
+-- the completion of one connector, if there is one
+abbrev pub doneOf : Done → List Completion
+doneOf Nothing = []
+doneOf (Complete x) = x ∷ []

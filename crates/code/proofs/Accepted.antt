@@ -16,15 +16,10 @@ use Rattle.code.specs.declared.next.After.{After}
 use Rattle.code.specs.declared.next.After.the-variants.{Nothing, Spelling, Lettering}
 use Rattle.code.specs.Limits.{legal, legalPair}
 use Rattle.code.specs.Letters.{pair, has, learnt}
+use Rattle.code.specs.Accepted.{Accepted}
 use Rattle.code.specs.Next.{nextPair}
 use Rattle.code.specs.Read.{Reading, pairs, fault, onward, readFrom, readCode}
 use Rattle.code.proofs.Nexts.{Ends, Sound, next-sound}
-
--- what is said of the pairs of a code
-pub record Accepted (freq : ℕ) (ps : List Pair) : Type 0 where
-  pub some : 1 ≤ length ps
-  pub most : length ps ≤ 260
-  pub allowed : all (legalPair freq) ps ≡ true
 
 abbrev Within : ℕ → Reading → Type 0
 Within freq (pairs ps) = Accepted freq ps

@@ -2,3 +2,4 @@ pub mod Limits
 pub mod Letters
 pub mod Next
 pub mod Read
+pub mod Accepted

@@ -8,7 +8,7 @@ use lib.Dec.{leb}
 use lib.ListN.{length, take, drop}
 use Rattle.laws.proofs.Choice.{cond-case}
 use Rattle.code.specs.declared.Pair.{Pair}
-use Rattle.code.proofs.Accepted.{Accepted}
+use Rattle.code.specs.Accepted.{Accepted}
 use Rattle.pace.specs.declared.Pace.{Pace}
 use Rattle.pace.specs.declared.Passed.{Passed}
 use Rattle.pace.specs.Pace.{SoundPace, periodsOf, endOf, passed}
@@ -26,7 +26,7 @@ use Rattle.connector.specs.Record.{freshConnector, SoundRun, SoundSendin
 use Rattle.connector.specs.Change.{sameMode, withMode, withReading, started, renewedSending, renewed, stopped, owns, toldOf, disowned}
 use Rattle.connector.specs.Send.{runOf}
 use Rattle.connector.specs.Pass.{pacedRun, passedRun, passedSending, passedConnector}
-use Rattle.connector.proofs.Lasting.{lead-high, tail-high, tail-low}
+use Rattle.pace.proofs.Lasting.{lead-high, tail-high, tail-low}
 
 pub fresh-connector : SoundConnector freshConnector
 fresh-connector = record { sends = refl; reads = tt }

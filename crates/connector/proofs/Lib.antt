@@ -1,5 +1,4 @@
 pub mod Deciding
-pub mod Lasting
 pub mod Keeps
 pub mod Contacts
 pub mod Completing

@@ -38,3 +38,8 @@ and-true a b e f = rw (e, f)
 pub and-false : (a b : Bool) → b ≡ false → a && b ≡ false
 and-false true b e = e
 and-false false b e = refl
+
+-- a function of a choice is the choice of its values
+pub cond-map : {A B : Type 0} (f : A → B) (t : Bool) (a b : A) → f (cond t a b) ≡ cond t (f a) (f b)
+cond-map f true a b = refl
+cond-map f false a b = refl

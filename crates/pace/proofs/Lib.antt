@@ -2,3 +2,4 @@ pub mod Bounds
 pub mod Summing
 pub mod Keeps
 pub mod Exact
+pub mod Lasting

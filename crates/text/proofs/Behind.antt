@@ -1,39 +1,44 @@
--- Laws of a written number that stands at a place of a text: it is read, and what stands behind it is known.
+-- Laws of the digits of a number that stand at a place of a text: they are read, and what stands behind them is known.
 use Prim.Native.Nat.{ℕ, _+_, _≤_, _<_}
 use mathlib.Core.Path.{_≡_, refl, sym, ap, _∙_}
-use mathlib.Core.List.{List, [], _∷_, _++_, append-assoc}
+use mathlib.Core.List.{List, [], _∷_, _++_, append-nil}
 use mathlib.Core.Bool.{true}
 use native.Mathlib.Omega.{arith}
-use borrow.Author.Tests.{lt-ltb, le-ltb, lt-leb}
-use lib.ListN.{length, take, drop, getD, length-drop, length-append, take-append-drop}
-use lib.Seq.{length-take-le}
+use borrow.Author.Tests.{lt-ltb, le-ltb, le-leb, lt-leb, ne-eqb}
+use lib.ListN.{length, drop, getD, length-drop, length-append}
 use Rattle.laws.specs.Lists.{all}
 use Rattle.laws.proofs.Choice.{and-left}
-use Rattle.laws.proofs.Lists.{stands-at, stands-below, stands-behind}
+use Rattle.laws.proofs.Lists.{leading-all, stands-at, stands-below, stands-behind}
 use Rattle.text.specs.declared.number.Number.the-variants.{Value}
 use Rattle.text.specs.declared.field.Field.the-variants.{Good}
-use Rattle.text.specs.Number.{isDigit, run, numberAt}
+use Rattle.text.specs.Number.{isDigit, run, worth, number, numberOf, numberAt}
 use Rattle.text.specs.Field.{endsField, afterComma, fieldWithin}
 use Rattle.text.specs.Decimal.{decimal}
-use Rattle.text.proofs.Decimals.{decimal-digits, decimal-some, read-back}
+use Rattle.text.proofs.Decimals.{decimal-digits, decimal-few, decimal-some, decimal-worth}
 
-module _ (s : List ℕ) (at n : ℕ) (rest : List ℕ) (e : drop at s ≡ decimal n ++ rest) where
-  -- its first byte
-  pub number-digit : isDigit (getD s at 0) ≡ true
-  number-digit = go (decimal n) (decimal-digits n) (decimal-some n) e
+module _ (s : List ℕ) (at : ℕ) (ds rest : List ℕ) (digits : all isDigit ds ≡ true) (some : 1 ≤ length ds) (e : drop at s ≡ ds ++ rest) where
+  pub digits-first : isDigit (getD s at 0) ≡ true
+  digits-first = go ds digits some e
     where
       go : (l : List ℕ) → all isDigit l ≡ true → 1 ≤ length l → drop at s ≡ l ++ rest → isDigit (getD s at 0) ≡ true
       go [] d h f = absurd (omega arith)
       go (b ∷ l) d h f = rw (stands-at s at b (l ++ rest) 0 f) (and-left (isDigit b) (all isDigit l) d)
 
-  pub number-below : at < length s
-  number-below = omega (arith, decimal-some n, sym (length-drop at s) ∙ ap length e ∙ length-append (decimal n) rest)
+  pub digits-below : at < length s
+  digits-below = omega (arith, sym (length-drop at s) ∙ ap length e ∙ length-append ds rest)
 
-  pub number-behind : n < 1000000 → run rest ≡ [] → numberAt s at ≡ Value n (at + length (decimal n))
-  number-behind h stop =
-      let whole : take at s ++ decimal n ++ rest ≡ s =
-      append-assoc (take at s) (decimal n) rest ∙ ap (λ (l : List ℕ). take at s ++ l) (sym e) ∙ take-append-drop at s in
-      rw whole at (read-back (take at s) rest n at (length-take-le at s (omega (arith, number-below))) h stop)
+  pub digits-read : length ds ≤ 6 → run rest ≡ [] → numberAt s at ≡ Value (worth 0 ds) (at + length ds)
+  unfolding numberAt numberOf number
+  digits-read few stop =
+      let g : run (drop at s) ≡ ds =
+      ap run e ∙ leading-all isDigit ds rest digits ∙ ap (λ (l : List ℕ). ds ++ l) stop ∙ append-nil ds in
+      rw (g, ne-eqb (length ds) 0 (omega arith), le-leb (length ds) 6 few)
+
+-- a written number
+pub number-behind : (s : List ℕ) (at n : ℕ) (rest : List ℕ) → drop at s ≡ decimal n ++ rest → n < 1000000 → run rest ≡ []
+    → numberAt s at ≡ Value n (at + length (decimal n))
+number-behind s at n rest e h stop =
+    rw decimal-worth at (digits-read s at (decimal n) rest (decimal-digits n) (decimal-some n) e (decimal-few n h) stop)
 
 -- a number that is a whole field, with a comma behind it
 module _ (s : List ℕ) (at n : ℕ) (rest : List ℕ) (e : drop at s ≡ decimal n ++ (44 ∷ rest)) where

@@ -1,21 +1,19 @@
--- Laws of decimals: how they are written, and that the reader reads what was written.
+-- Laws of decimals: how they are written, and what their digits are worth.
 use Prim.Native.Nat.{ℕ, zero, suc, _+_, _-_, _*_, _/_, _%_, _^_, _≤_, _<_}
 use mathlib.Core.Path.{_≡_, refl, sym, ap, _∙_}
-use mathlib.Core.List.{List, [], _∷_, _++_, append-assoc, append-nil}
-use mathlib.Core.Bool.{Bool, true, false, cond, _&&_}
+use mathlib.Core.List.{List, [], _∷_, _++_}
+use mathlib.Core.Bool.{true, false, cond}
 use native.Mathlib.Nat.{pow-succ'}
 use native.Mathlib.Omega.{arith}
-use borrow.Author.Tests.{lt-ltb, le-ltb, ltb-true, ltb-false, le-leb, ne-eqb}
-use lib.Dec.{ltb, leb, eqb}
-use lib.ListN.{length, set, drop, length-append}
-use lib.Seq.{sets, drop-append-seam}
+use borrow.Author.Tests.{lt-ltb, le-ltb, ltb-true, ltb-false, le-leb}
+use lib.Dec.{ltb}
+use lib.ListN.{length, set, length-append}
 use Rattle.laws.specs.Lists.{all}
 use Rattle.laws.specs.Put.{Put}
 use Rattle.laws.proofs.Choice.{by-test}
-use Rattle.laws.proofs.Lists.{sets-append, leading-all, all-append}
+use Rattle.laws.proofs.Lists.{all-append}
 use Rattle.laws.proofs.Put.{then, byte}
-use Rattle.text.specs.declared.number.Number.the-variants.{Value}
-use Rattle.text.specs.Number.{isDigit, run, worth, number, numberOf, numberAt}
+use Rattle.text.specs.Number.{isDigit, worth}
 use Rattle.text.specs.Decimal.{decimalIn, decimal}
 
 tenth : (n p : ℕ) → n < 10 * p → n / 10 < p
@@ -46,7 +44,7 @@ pub put-last : {b b₁ : List ℕ} {at m n : ℕ} → 10 ≤ n → n < 2 ^ 64 �
     → Put b at (decimal n) (set b₁ m (48 + n % 10)) (m + 1)
 put-last {b} {b₁} {at} {m} {n} l h p = rw (decimal-step n l h) (then p (byte b₁ m (48 + n % 10)))
 
--- ---- read back
+-- ---- their digits
 
 digit : (n : ℕ) → isDigit (48 + n % 10) ≡ true
 digit n = rw (le-ltb (48 + n % 10) 48 (omega arith), le-leb (48 + n % 10) 57 (omega arith))
@@ -109,26 +107,6 @@ pub decimal-some : (n : ℕ) → 1 ≤ length (decimal n)
 unfolding decimal
 decimal-some n = by-test (ltb n 10) (λ e. rw e (omega arith)) (λ e. rw (e, length-append) (omega arith))
 
-pub decimal-run : (n : ℕ) (rest : List ℕ) → run (decimal n ++ rest) ≡ decimal n ++ run rest
-decimal-run n rest = leading-all isDigit (decimal n) rest (decimal-digits n)
-
-decimal-worth : (n : ℕ) → n < 1000000 → worth 0 (decimal n) ≡ n
+pub decimal-worth : (n : ℕ) → n < 1000000 → worth 0 (decimal n) ≡ n
 unfolding decimal
 decimal-worth n h = fine 20 n .value (omega arith)
-
--- the reader reads what was written, wherever it stands
-pub read-back : (p rest : List ℕ) (n at : ℕ) → length p ≡ at → n < 1000000 → run rest ≡ []
-    → numberAt (p ++ decimal n ++ rest) at ≡ Value n (at + length (decimal n))
-unfolding numberAt numberOf number
-read-back p rest n at l h e =
-    let g : run (decimal n ++ rest) ≡ decimal n =
-    decimal-run n rest ∙ ap (λ (l : List ℕ). decimal n ++ l) e ∙ append-nil (decimal n) in
-    rw (
-      ← l,
-      append-assoc p (decimal n) rest,
-      drop-append-seam p (decimal n ++ rest),
-      g,
-      ne-eqb (length (decimal n)) 0 (omega (arith, decimal-some n)),
-      le-leb (length (decimal n)) 6 (decimal-few n h),
-      decimal-worth n h,
-    )

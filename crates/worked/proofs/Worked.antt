@@ -14,10 +14,16 @@ use Rattle.request.specs.Address.{portAt, addressAt, addressFault}
 use Rattle.request.specs.Fields.{capped, sentAt}
 use Rattle.request.specs.Request.{addressed, readRequest}
 use Rattle.writer.specs.CodeText.{codeText}
+use Rattle.pace.specs.Pace.{endOf, firstMicro, passed}
+use Rattle.reply.specs.Reply.{replyText}
+use Rattle.connector.specs.Send.{runOf}
+use Rattle.hub.specs.Send.{sendStep, codeStep, sentStep}
+use Rattle.hub.specs.Line.{lineStep}
+use Rattle.hub.specs.Wait.{waitedStep}
 use Rattle.worked.specs.Table.{Holds, table}
 
 pub worked : Holds table
-unfolding number numberOf numberAt endsField afterComma fieldWithin decimal legal samePair learnt isLetter countAt offAt afterOn spelledAt letterAt begunAt nextPair readCode nameAt portAt addressAt addressFault capped sentAt addressed readRequest codeText
+unfolding number numberOf numberAt endsField afterComma fieldWithin decimal legal samePair learnt isLetter countAt offAt afterOn spelledAt letterAt begunAt nextPair readCode nameAt portAt addressAt addressFault capped sentAt addressed readRequest codeText endOf firstMicro passed replyText runOf sendStep codeStep sentStep lineStep waitedStep
 worked = (
   (refl, refl),
   (
@@ -36,25 +42,7 @@ worked = (
                 refl,
                 (
                   refl,
-                  (
-                    refl,
-                    (
-                      refl,
-                      (
-                        refl,
-                        (
-                          refl,
-                          (
-                            refl,
-                            (
-                              refl,
-                              tt,
-                            ),
-                          ),
-                        ),
-                      ),
-                    ),
-                  ),
+                  ((λ store. refl), ((λ store. refl), ((λ store. refl), ((λ store. refl), ((λ store. refl), ((λ store. refl), tt)))))),
                 ),
               ),
             ),

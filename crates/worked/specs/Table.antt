@@ -3,20 +3,20 @@
 use Prim.Native.Nat.{ℕ}
 use Prim.Native.String.{String}
 use mathlib.Core.Path.{_≡_}
-use mathlib.Core.List.{List, [], _∷_}
+use mathlib.Core.List.{List, [], _∷_, map}
 use Rattle.laws.specs.Bytes.{bytes}
 use Rattle.code.specs.declared.limits.Smallest.the-variants.{Count}
 use Rattle.code.specs.Limits.{SmallestCount}
 use Rattle.code.specs.Letters.{pair}
 use Rattle.code.specs.Read.{Reading, pairs, fault, readCode}
-use Rattle.request.specs.declared.Request.{Request}
-use Rattle.request.specs.declared.Request.the-variants.{Fault, SendIr}
-use Rattle.request.specs.declared.fields.Sent.the-variants as sent
-use Rattle.request.specs.Fields.{fieldsOf}
-use Rattle.request.specs.Request.{readRequest}
 use Rattle.writer.specs.declared.Form.the-variants.{Lettered}
 use Rattle.writer.specs.CodeText.{codeText}
 use Rattle.writer.specs.Given.{pairsOf}
+use Rattle.pace.specs.Pace.{micros}
+use Rattle.connector.specs.declared.Owner.the-variants.{Connection}
+use Rattle.hub.specs.Record.{freshHub}
+use Rattle.history.specs.Calls.{Call, line, waiting}
+use Rattle.history.specs.Replay.{Said, run}
 
 pub data Row : Type 0 where
   -- counts that are written lettered as this text, and read back, at 40000 Hz
@@ -25,15 +25,28 @@ pub data Row : Type 0 where
   smallest : ℕ → ℕ → Row
   -- a code's text, read at 40000 Hz
   code : String → Reading → Row
-  -- a line
-  line : String → Request → Row
+  -- a line to a fresh hub, and its reply
+  answered : String → String → Row
+  -- a line to a fresh hub that is taken, and the completion of connector 1 at the end of a wait of so many microseconds
+  completes : String → ℕ → Row
+
+-- what is said to calls, from a fresh hub, whatever its store holds
+abbrev pub said : List ℕ → List Call → List Said
+said store calls = run freshHub store calls
+
+abbrev pub from0 : String → Call
+from0 text = line 0 128 (bytes text)
 
 abbrev pub HoldsOf : Row → Type 0
 HoldsOf (lettered counts text) =
     (codeText Lettered (pairsOf counts) ≡ bytes text) × (readCode 40000 (bytes text) 0 ≡ pairs (pairsOf counts))
 HoldsOf (smallest freq count) = SmallestCount freq (Count count)
 HoldsOf (code text gives) = readCode 40000 (bytes text) 0 ≡ gives
-HoldsOf (line text gives) = readRequest (bytes text) ≡ gives
+HoldsOf (answered text reply) =
+    (store : List ℕ) → map (λ (s : Said). s .bytes) (said store (from0 text ∷ [])) ≡ (bytes reply ∷ [])
+HoldsOf (completes text n) =
+    (store : List ℕ) → map (λ (s : Said). s .completions) (said store (from0 text ∷ waiting n ∷ []))
+    ≡ ([] ∷ (record { owner = Connection 0; moment = micros n; port = 1; id = 0 } ∷ []) ∷ [])
 
 abbrev pub Holds : List Row → Type 0
 Holds [] = Unit
@@ -50,14 +63,13 @@ table =
     ∷ code "4A" (fault 21)
     ∷ code "4,5A,8,9" (fault 9)
     ∷ code "4,5,8" (fault 10)
-    -- 002 from the line alone
-    ∷ line "sendir,5:3,3456,23400,1,1,24,48,24,960" (Fault 2 0 0)
-    -- a code's fault, 010, behind fields without one
-    ∷ line "sendir,1:2,23333,40000,2,3,24,48,24,48,960" (SendIr 2 (sent.Fields (fieldsOf 23333 40000 2 3) 27))
-    ∷ code "24,48,24,48,960" (fault 10)
-    -- an even offset, 007
-    ∷ line "sendir,1:3,0,40000,2,2,24,48,24,960" (SendIr 3 (sent.Fault 7))
-    -- repeat 0, 006; 21 is taken as 20
-    ∷ line "sendir,1:1,0,40000,0,1,24,48" (SendIr 1 (sent.Fault 6))
-    ∷ line "sendir,1:1,0,40000,21,1,24,48" (SendIr 1 (sent.Fields (fieldsOf 0 40000 20 1) 24))
+    ∷ answered "sendir,5:3,3456,23400,1,1,24,48,24,960" "ERR_0:0,002\r"
+    ∷ answered "sendir,1:2,23333,40000,2,3,24,48,24,48,960" "ERR_1:2,010\r"
+    ∷ answered "sendir,1:3,0,40000,2,2,24,48,24,960" "ERR_1:3,007\r"
+    -- repeat 0: 006
+    ∷ answered "sendir,1:1,0,40000,0,1,24,48" "ERR_1:1,006\r"
+    -- "21 is taken as 20": 20 copies of 72 periods of 25 µs
+    ∷ completes "sendir,1:1,0,40000,21,1,24,48" 36000
+    -- offset 3 with one pair: 007
+    ∷ answered "sendir,1:1,0,40000,1,3,24,48" "ERR_1:1,007\r"
     ∷ []

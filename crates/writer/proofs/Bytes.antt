@@ -1,7 +1,7 @@
 -- What bytes a written line has, and how many.
 use Prim.Native.Nat.{ℕ, _+_, _*_, _≤_}
 use mathlib.Core.Path.{_≡_, refl}
-use mathlib.Core.Bool.{Bool, true}
+use mathlib.Core.Bool.{Bool, true, _&&_}
 use mathlib.Core.List.{List, [], _∷_, _++_}
 use native.Mathlib.Omega.{arith}
 use borrow.Author.Tests.{ltb-true, ltb-false}
@@ -21,46 +21,58 @@ use Rattle.code.specs.Letters.{placeOf, learnt}
 use Rattle.code.specs.Limits.{legal, legalPair}
 use Rattle.request.specs.declared.fields.Fields.{Fields}
 use Rattle.request.specs.Fields.{capped}
+use Rattle.lettered.specs.Lettered.{Item, spelled, letter, itemText, textOf}
+use Rattle.lettered.proofs.Written.{afterOf, front, front-letter, textFrom, text-from}
 use Rattle.writer.specs.declared.Form.{Form}
-use Rattle.writer.specs.CodeText.{Item, spelled, letter, items, comma, spelling, textOf, inUse}
+use Rattle.writer.specs.CodeText.{spelt, items, comma, spelling, codeText, inUse}
 use Rattle.writer.specs.Sendir.{Small}
-use Rattle.writer.proofs.Writing.{item-letter, item-spelled, comma-few, pair-length}
+use Rattle.writer.proofs.Writing.{item-letter, item-spelled, front-comma, comma-few, pair-length}
 use Rattle.writer.proofs.ReadBack.{legal-small}
 use Rattle.writer.proofs.Heads.{listed, fieldsIn}
 
--- whether an item is spelled, or a letter for which a test holds
+-- whether an item is spelled by digits, or a letter for which a test holds
 abbrev pub lettersAre : (ℕ → Bool) → Item → Bool
-lettersAre r (spelled p) = true
+lettersAre r (spelled on off) = all isDigit on && all isDigit off
 lettersAre r (letter i) = r i
+
+pub spelt-are : (r : ℕ → Bool) (p : Pair) → lettersAre r (spelt p) ≡ true
+spelt-are r p = and-true (all isDigit (decimal (p .on))) _ (decimal-digits (p .on)) (decimal-digits (p .off))
 
 -- what holds of the digits and of the comma holds of all bytes, where it holds of the letters
 module _ (q : ℕ → Bool) (digits : (b : ℕ) → isDigit b ≡ true → q b ≡ true) (commas : q 44 ≡ true) where
-  decimal-all : (n : ℕ) → all q (decimal n) ≡ true
-  decimal-all n = all-weaker isDigit q digits (decimal n) (decimal-digits n)
+  digits-all : (l : List ℕ) → all isDigit l ≡ true → all q l ≡ true
+  digits-all l e = all-weaker isDigit q digits l e
 
   pub listed-all : (ns rest : List ℕ) → all q rest ≡ true → all q (listed ns rest) ≡ true
   listed-all [] rest e = e
   listed-all (n ∷ ns) rest e =
-      all-append q (decimal n) (44 ∷ listed ns rest) (decimal-all n) (and-true (q 44) _ commas (listed-all ns rest e))
+      all-append q (decimal n) (44 ∷ listed ns rest) (digits-all (decimal n) (decimal-digits n))
+      (and-true (q 44) _ commas (listed-all ns rest e))
 
-  comma-all : (after : After) → all q (comma after) ≡ true
-  comma-all Nothing = refl
-  comma-all Spelling = rw commas
-  comma-all Lettering = refl
+  front-all : (after : After) (x : Item) → all q (front after x) ≡ true
+  front-all Nothing x = refl
+  front-all Spelling (spelled on off) = rw commas
+  front-all Spelling (letter i) = refl
+  front-all Lettering x = refl
 
-  spelling-all : (p : Pair) → all q (spelling p) ≡ true
-  spelling-all p =
-      all-append q (decimal (p .on) ++ bytes ",") (decimal (p .off))
-      (all-append q (decimal (p .on)) (bytes ",") (decimal-all (p .on)) (rw commas)) (decimal-all (p .off))
+  text-from-all : (r : ℕ → Bool) → ((i : ℕ) → r i ≡ true → q (65 + i) ≡ true) → (after : After) (is : List Item)
+      → all (lettersAre r) is ≡ true → all q (textFrom after is) ≡ true
+  text-from-all r f after [] e = refl
+  text-from-all r f after (x ∷ is) e =
+      all-append q (front after x ++ itemText x) (textFrom (afterOf x) is)
+      (all-append q (front after x) (itemText x) (front-all after x) (item x (and-left (lettersAre r x) _ e)))
+      (text-from-all r f (afterOf x) is (and-right (lettersAre r x) _ e))
+    where
+      item : (x : Item) → lettersAre r x ≡ true → all q (itemText x) ≡ true
+      item (spelled on off) h =
+          all-append q (on ++ bytes ",") off
+          (all-append q on (bytes ",") (digits-all on (and-left (all isDigit on) _ h)) (rw commas))
+          (digits-all off (and-right (all isDigit on) _ h))
+      item (letter i) h = rw (f i h)
 
-  pub text-all : (r : ℕ → Bool) → ((i : ℕ) → r i ≡ true → q (65 + i) ≡ true) → (after : After) (is : List Item)
-      → all (lettersAre r) is ≡ true → all q (textOf after is) ≡ true
-  text-all r f after [] e = refl
-  text-all r f after (spelled p ∷ is) e =
-      all-append q (comma after ++ spelling p) (textOf Spelling is)
-      (all-append q (comma after) (spelling p) (comma-all after) (spelling-all p)) (text-all r f Spelling is e)
-  text-all r f after (letter i ∷ is) e =
-      and-true (q (65 + i)) _ (f i (and-left (r i) _ e)) (text-all r f Lettering is (and-right (r i) _ e))
+  pub text-all : (r : ℕ → Bool) → ((i : ℕ) → r i ≡ true → q (65 + i) ≡ true) → (is : List Item) → all (lettersAre r) is ≡ true
+      → all q (textOf is) ≡ true
+  text-all r f is e = rw (text-from is) (text-from-all r f Nothing is e)
 
 -- ---- how many
 pub head-few : {port : ℕ} {f : Fields} (code : List ℕ) → Small port f
@@ -76,22 +88,27 @@ head-few {port} {f} code s =
       decimal-few (f .offset) (s .offset-small),
     ))
 
-pub code-few : (form : Form) (freq : ℕ) (t : List Pair) (after : After) (ps : List Pair) → all (legalPair freq) ps ≡ true
-    → length (textOf after (items form t ps)) ≤ 14 * length ps
-code-few form freq t after [] h = omega arith
-code-few form freq t after (p ∷ ps) h =
+few-from : (form : Form) (freq : ℕ) (t : List Pair) (after : After) (ps : List Pair) → all (legalPair freq) ps ≡ true
+    → length (textFrom after (items form t ps)) ≤ 14 * length ps
+few-from form freq t after [] h = omega arith
+few-from form freq t after (p ∷ ps) h =
     let r = and-right (legalPair freq p) _ h in
     let l = and-left (legalPair freq p) _ h in
     by-test (ltb (placeOf p t) (inUse form (length t)))
     (λ e.
-    rw (item-letter form t p (ltb-true (placeOf p t) _ e)) (omega (arith, code-few form freq (learnt t p) Lettering ps r)))
+    rw (item-letter form t p (ltb-true (placeOf p t) _ e), front-letter after (placeOf p t))
+    (omega (arith, few-from form freq (learnt t p) Lettering ps r)))
     (λ e.
-    rw (item-spelled form t p (ltb-false (placeOf p t) _ e), length-append (comma after ++ spelling p))
+    rw (item-spelled form t p (ltb-false (placeOf p t) _ e), front-comma after p, length-append (comma after ++ spelling p))
     (omega (
       arith,
-      code-few form freq (learnt t p) Spelling ps r,
+      few-from form freq (learnt t p) Spelling ps r,
       pair-length after (p .on) (p .off),
       comma-few after,
       decimal-few (p .on) (legal-small freq (p .on) (and-left (legal freq (p .on)) _ l)),
       decimal-few (p .off) (legal-small freq (p .off) (and-right (legal freq (p .on)) _ l)),
     )))
+
+pub code-few : (form : Form) (freq : ℕ) (ps : List Pair) → all (legalPair freq) ps ≡ true → length (codeText form ps) ≤ 14 * length ps
+unfolding codeText
+code-few form freq ps h = rw (text-from (items form [] ps)) (few-from form freq [] Nothing ps h)

@@ -11,26 +11,26 @@ use lib.ListN.{length, getD}
 use Rattle.laws.specs.Lists.{all}
 use Rattle.laws.proofs.Choice.{by-test, and-true, not-both}
 use Rattle.code.specs.declared.Pair.{Pair}
-use Rattle.code.specs.declared.next.After.the-variants.{Nothing}
 use Rattle.code.specs.Letters.{placeOf, learnt, lettersOf}
 use Rattle.code.specs.Next.{isLetter}
 use Rattle.code.proofs.Lettering.{learnt-few}
+use Rattle.lettered.specs.Lettered.{Item}
+use Rattle.lettered.proofs.ItemsRead.{digit-no-letter}
 use Rattle.writer.specs.declared.Form.{Form}
 use Rattle.writer.specs.declared.Form.the-variants.{Plain, Lettered}
-use Rattle.writer.specs.CodeText.{Item, itemOf, items, codeText, inUse}
+use Rattle.writer.specs.CodeText.{spelt, itemOf, items, codeText, inUse}
 use Rattle.writer.proofs.Writing.{item-letter, item-spelled, at-most}
-use Rattle.writer.proofs.ReadBack.{digit-no-letter}
-use Rattle.writer.proofs.Bytes.{lettersAre, text-all}
+use Rattle.writer.proofs.Bytes.{lettersAre, spelt-are, text-all}
 
 -- ---- plain text
 all-spelled : (t ps : List Pair) → all (lettersAre (λ i. false)) (items Plain t ps) ≡ true
 all-spelled t [] = refl
-all-spelled t (p ∷ ps) = all-spelled (learnt t p) ps
+all-spelled t (p ∷ ps) = and-true (lettersAre (λ i. false) (spelt p)) _ (spelt-are (λ i. false) p) (all-spelled (learnt t p) ps)
 
 pub plain-no-letter : (ps : List Pair) → all (λ b. not (isLetter b)) (codeText Plain ps) ≡ true
 unfolding codeText isLetter
 plain-no-letter ps =
-    text-all (λ b. not (isLetter b)) (λ b e. rw (digit-no-letter b e)) refl (λ i. false) (λ i z. not-both z refl) Nothing
+    text-all (λ b. not (isLetter b)) (λ b e. rw (digit-no-letter b e)) refl (λ i. false) (λ i z. not-both z refl)
     (items Plain [] ps) (all-spelled [] ps)
 
 -- ---- lettered text
@@ -54,7 +54,9 @@ low-from form t (p ∷ ps) h =
     let l = ltb-true (placeOf p t) (inUse form (length t)) e in
     let low : placeOf p t < 15 = omega (arith, at-most form (length t)) in
     rw (item-letter form t p l) (and-true (ltb (placeOf p t) 15) _ (lt-ltb (placeOf p t) 15 low) more))
-    (λ e. rw (item-spelled form t p (ltb-false (placeOf p t) _ e)) more)
+    (λ e.
+    rw (item-spelled form t p (ltb-false (placeOf p t) _ e))
+    (and-true (lettersAre (λ i. ltb i 15) (spelt p)) _ (spelt-are (λ i. ltb i 15) p) more))
 
 pub letters-low : (form : Form) (ps : List Pair) → all (lettersAre (λ i. ltb i 15)) (items form [] ps) ≡ true
 letters-low form ps = low-from form [] ps (omega arith)

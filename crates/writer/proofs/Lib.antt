@@ -7,4 +7,3 @@ pub mod Heads
 pub mod Bytes
 pub mod Forms
 pub mod RoundTrip
-pub mod Distinct

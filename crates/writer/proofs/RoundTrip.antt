@@ -12,10 +12,9 @@ use Rattle.laws.proofs.Choice.{cond-case}
 use Rattle.text.specs.Number.{isDigit}
 use Rattle.text.proofs.Reading.{digit-range}
 use Rattle.code.specs.declared.Pair.{Pair}
-use Rattle.code.specs.declared.next.After.the-variants.{Nothing}
 use Rattle.code.specs.Limits.{legal, offsetWithin}
 use Rattle.code.specs.Read.{Reading, pairs, fault}
-use Rattle.code.proofs.Accepted.{Accepted}
+use Rattle.code.specs.Accepted.{Accepted}
 use Rattle.request.specs.Request.{isPrintable}
 use Rattle.writer.specs.declared.Form.{Form}
 use Rattle.writer.specs.declared.sendir.Command.{Command}
@@ -85,11 +84,10 @@ letter-printable i e = rw (le-ltb (65 + i) 32 (omega arith), le-leb (65 + i) 126
 code-printable : (form : Form) (ps : List Pair) → all isPrintable (codeText form ps) ≡ true
 unfolding codeText
 code-printable form ps =
-    text-all isPrintable digit-printable refl (λ i. ltb i 15) letter-printable Nothing (items form [] ps) (letters-low form ps)
+    text-all isPrintable digit-printable refl (λ i. ltb i 15) letter-printable (items form [] ps) (letters-low form ps)
 
 code-fits : (form : Form) {freq : ℕ} {ps : List Pair} → Accepted freq ps → length (codeText form ps) ≤ 3640
-unfolding codeText
-code-fits form {freq} {ps} a = omega (arith, code-few form freq [] Nothing ps (a .allowed), a .most)
+code-fits form {freq} {ps} a = omega (arith, code-few form freq ps (a .allowed), a .most)
 
 pub round-trip : (room : ℕ) (form : Form) (c : Command) (counts text : List ℕ) → outcome room form c counts ≡ line text
     → ReadsBack c (pairsOf counts) text

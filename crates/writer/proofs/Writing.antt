@@ -1,32 +1,33 @@
 -- Laws of the loop that writes a code's text.
-use Prim.Native.Nat.{ℕ, suc, _+_, _-_, _*_, _≤_, _<_}
+use Prim.Native.Nat.{ℕ, _+_, _-_, _*_, _≤_, _<_}
 use mathlib.Core.Path.{_≡_, refl, sym, ap, _∙_}
-use mathlib.Core.List.{List, [], _∷_, _++_}
+use mathlib.Core.List.{List, [], _++_}
 use native.Mathlib.Omega.{arith}
 use borrow.Author.Tests.{lt-ltb, le-ltb}
-use lib.ListN.{length, take, drop, getD, set, replicate, length-append, length-set}
-use lib.Seq.{sets, length-sets}
+use lib.ListN.{length, take, drop, getD, set, length-append, length-set}
 use Rattle.laws.specs.Bytes.{bytes}
 use Rattle.laws.specs.Put.{Put}
 use Rattle.laws.proofs.Lists.{drop-take-next, drop-take-end}
 use Rattle.laws.proofs.Put.{then, byte}
 use Rattle.text.specs.Decimal.{decimal}
-use Rattle.text.proofs.Decimals.{decimal-few}
 use Rattle.code.specs.declared.Pair.{Pair}
 use Rattle.code.specs.declared.letters.Letters.{Letters}
 use Rattle.code.specs.declared.next.After.{After}
 use Rattle.code.specs.declared.next.After.the-variants.{Nothing, Spelling, Lettering}
-use Rattle.code.specs.Letters.{pair, noLetters, placeOf, has, learnt, held, Kept}
+use Rattle.code.specs.Letters.{pair, noLetters, placeOf, learnt, held, Kept}
+use Rattle.lettered.specs.Lettered.{Item, letter, itemText}
+use Rattle.lettered.proofs.Learnt.{learnt-known}
+use Rattle.lettered.proofs.Written.{afterOf, front, front-letter, textFrom, text-from}
 use Rattle.writer.specs.declared.Form.{Form}
 use Rattle.writer.specs.declared.Form.the-variants.{Plain, Lettered}
-use Rattle.writer.specs.CodeText.{Item, spelled, letter, itemOf, items, comma, spelling, textOf, codeText, inUse}
+use Rattle.writer.specs.CodeText.{spelt, itemOf, items, comma, spelling, codeText, inUse}
 
 -- ---- one item
 pub item-letter : (form : Form) (t : List Pair) (p : Pair) → placeOf p t < inUse form (length t) → itemOf form t p ≡ letter (placeOf p t)
 item-letter Plain t p h = absurd (omega arith)
 item-letter Lettered t p h = rw (lt-ltb (placeOf p t) (length t) h)
 
-pub item-spelled : (form : Form) (t : List Pair) (p : Pair) → inUse form (length t) ≤ placeOf p t → itemOf form t p ≡ spelled p
+pub item-spelled : (form : Form) (t : List Pair) (p : Pair) → inUse form (length t) ≤ placeOf p t → itemOf form t p ≡ spelt p
 item-spelled Plain t p h = refl
 item-spelled Lettered t p h = rw (le-ltb (placeOf p t) (length t) h)
 
@@ -34,10 +35,10 @@ pub at-most : (form : Form) (n : ℕ) → inUse form n ≤ n
 at-most Plain n = omega arith
 at-most Lettered n = omega arith
 
--- a pair that has a letter gets no other
-pub learnt-known : (t : List Pair) (p : Pair) → placeOf p t < length t → learnt t p ≡ t
-unfolding learnt
-learnt-known t p h = rw (lt-ltb (placeOf p t) (length t) h)
+pub front-comma : (after : After) (p : Pair) → front after (spelt p) ≡ comma after
+front-comma Nothing p = refl
+front-comma Spelling p = refl
+front-comma Lettering p = refl
 
 pub comma-few : (after : After) → length (comma after) ≤ 1
 comma-few Nothing = omega arith
@@ -56,7 +57,7 @@ pub record Writing (form : Form) (buf₀ : List ℕ) (at count : ℕ) (ps : List
   pub long : count ≤ length ps
   pub same : length buf ≡ length buf₀
   pub room : o + 14 * (count - j) ≤ length buf
-  pub goes : {b : List ℕ} {n : ℕ} → Put buf o (textOf after (items form (held t) (drop j (take count ps)))) b n
+  pub goes : {b : List ℕ} {n : ℕ} → Put buf o (textFrom after (items form (held t) (drop j (take count ps)))) b n
       → Put buf₀ at (codeText form (take count ps)) b n
 
 pub writing-start : (form : Form) (buf : List ℕ) (at count : ℕ) (ps : List Pair) → count ≤ length ps → at + 14 * count ≤ length buf
@@ -69,7 +70,7 @@ writing-start form buf at count ps l r =
       long = l;
       same = refl;
       room = omega arith;
-      goes = λ p. p;
+      goes = λ p. rw (text-from (items form [] (take count ps))) p;
     }
 
 module _ {form : Form} {buf₀ : List ℕ} {at count : ℕ} {ps : List Pair} {buf : List ℕ} {t : Letters} {o : ℕ} {after : After} {j : ℕ}
@@ -83,18 +84,17 @@ module _ {form : Form} {buf₀ : List ℕ} {at count : ℕ} {ps : List Pair} {bu
     q = getD ps j (pair 0 0)
 
     -- one item of the text is written
-    step : {x : Item} {t′ : Letters} {after′ : After} {text buf′ : List ℕ} {o′ : ℕ} → itemOf form (held t) q ≡ x
-        → ((is : List Item) → textOf after (x ∷ is) ≡ text ++ textOf after′ is) → Kept t′ (learnt (held t) q)
-        → Put buf o text buf′ o′ → length buf′ ≡ length buf → o′ ≤ o + 14
-        → Writing form buf₀ at count ps buf′ t′ o′ after′ (j + 1)
-    step e f k p s r =
+    step : {x : Item} {t′ : Letters} {buf′ : List ℕ} {o′ : ℕ} → itemOf form (held t) q ≡ x → Kept t′ (learnt (held t) q)
+        → Put buf o (front after x ++ itemText x) buf′ o′ → length buf′ ≡ length buf → o′ ≤ o + 14
+        → Writing form buf₀ at count ps buf′ t′ o′ (afterOf x) (j + 1)
+    step e k p s r =
         record {
           kept = record { few = k .few; counted = k .counted; are = refl };
           within = omega arith;
           long = w .long;
           same = s ∙ w .same;
           room = omega (arith, w .room);
-          goes = λ g. w .goes (rw (drop-take-next ps count j (pair 0 0) (w .long) h, e, f) (then p (rw (k .are) at g)));
+          goes = λ g. w .goes (rw (drop-take-next ps count j (pair 0 0) (w .long) h, e) (then p (rw (k .are) at g)));
         }
 
     pub writing-letter : {i : ℕ} → i ≡ placeOf q (held t) → i < inUse form (t .count)
@@ -102,12 +102,12 @@ module _ {form : Form} {buf₀ : List ℕ} {at count : ℕ} {ps : List Pair} {bu
     writing-letter {i} e l =
         let m : placeOf q (held t) < inUse form (length (held t)) = rw (w .kept .counted, ← e) l in
         let n : placeOf q (held t) < length (held t) = omega (arith, at-most form (length (held t))) in
-        step (item-letter form (held t) q m ∙ ap letter (sym e)) (λ is. refl)
+        step (item-letter form (held t) q m ∙ ap letter (sym e))
         (record { few = w .kept .few; counted = w .kept .counted; are = sym (learnt-known (held t) q n) })
-        (byte buf o (65 + i)) (length-set buf o (65 + i)) (omega arith)
+        (rw (front-letter after i) (byte buf o (65 + i))) (length-set buf o (65 + i)) (omega arith)
 
     pub writing-spelled : {i o′ : ℕ} {t′ : Letters} {buf′ : List ℕ} → i ≡ placeOf q (held t) → inUse form (t .count) ≤ i
         → Put buf o (comma after ++ spelling q) buf′ o′ × (o′ ≤ o + 14) → length buf′ ≡ length buf → Kept t′ (learnt (held t) q)
         → Writing form buf₀ at count ps buf′ t′ o′ Spelling (j + 1)
     writing-spelled e l p s k =
-        step (item-spelled form (held t) q (rw (w .kept .counted, ← e) l)) (λ is. refl) k (p .0) s (p .1)
+        step (item-spelled form (held t) q (rw (w .kept .counted, ← e) l)) k (rw (front-comma after q) (p .0)) s (p .1)

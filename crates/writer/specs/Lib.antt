@@ -2,4 +2,3 @@ pub mod CodeText
 pub mod Given
 pub mod Sendir
 pub mod RoundTrip
-pub mod Distinct

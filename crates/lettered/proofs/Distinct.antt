@@ -12,7 +12,7 @@ use Rattle.laws.proofs.Choice.{by-test}
 use Rattle.code.specs.declared.Pair.{Pair}
 use Rattle.code.specs.Letters.{samePair, placeOf, has, learnt, lettersOf}
 use Rattle.code.proofs.Lettering.{same-eq, learnt-few}
-use Rattle.writer.specs.Distinct.{without, distinct}
+use Rattle.lettered.specs.Distinct.{without, distinct}
 
 -- ---- a pair in a list
 has-first : (q r : Pair) (t : List Pair) → samePair r q ≡ true → has q (r ∷ t) ≡ true

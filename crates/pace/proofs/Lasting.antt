@@ -13,8 +13,8 @@ use Rattle.code.specs.declared.Pair.{Pair}
 use Rattle.code.specs.Letters.{pair}
 use Rattle.code.specs.Limits.{legal, legalPair}
 use Rattle.code.proofs.Smallest.{Legal, legal-is}
-use Rattle.code.proofs.Accepted.{Accepted}
+use Rattle.code.specs.Accepted.{Accepted}
 use Rattle.pace.specs.Pace.{periodsOf}
 
 periods-append : (ps qs : List Pair) → periodsOf (ps ++ qs) ≡ periodsOf ps + periodsOf qs
 periods-append [] qs = omega arith
@@ -31,11 +31,12 @@ periods-high freq [] e = omega arith
 periods-high freq (p ∷ ps) e =
     omega (arith, pair-lasts freq p (and-left (legalPair freq p) _ e) .1, periods-high freq ps (and-right (legalPair freq p) _ e))
 
+pub periods-split : (k : ℕ) (ps : List Pair) → periodsOf (take k ps) + periodsOf (drop k ps) ≡ periodsOf ps
+periods-split k ps = sym (periods-append (take k ps) (drop k ps)) ∙ ap periodsOf (take-append-drop k ps)
+
 module _ {freq : ℕ} {ps : List Pair} (a : Accepted freq ps) (k : ℕ) where
   parts-high : periodsOf (take k ps) + periodsOf (drop k ps) ≤ 26000000
-  parts-high =
-      let e = sym (periods-append (take k ps) (drop k ps)) ∙ ap periodsOf (take-append-drop k ps) in
-      omega (arith, periods-high freq ps (a .allowed), a .most)
+  parts-high = omega (arith, periods-split k ps, periods-high freq ps (a .allowed), a .most)
 
   pub lead-high : periodsOf (take k ps) ≤ 26000000
   lead-high = omega (arith, parts-high)

@@ -1,0 +1,5 @@
+pub mod Law
+pub mod Reading
+pub mod Writing
+pub mod Timing
+pub mod Serving

@@ -1,0 +1,140 @@
+-- text, code and request: what is read.
+use Prim.Native.Nat.{ℕ, _≤_}
+use mathlib.Core.Path.{_≡_}
+use mathlib.Core.Bool.{Bool}
+use mathlib.Core.List.{List}
+use lib.ListN.{getD, drop, length}
+use Rattle.text.specs.declared.field.Field.{Field}
+use Rattle.text.specs.declared.number.Number.{Number}
+use Rattle.text.specs.Number.{isDigit, numberAt}
+use Rattle.text.specs.Field.{endsField, afterComma, fieldIs, fieldWithin}
+use Rattle.code.specs.declared.Pair.{Pair}
+use Rattle.code.specs.declared.Code.{Code}
+use Rattle.code.specs.declared.letters.Letters.{Letters}
+use Rattle.code.specs.declared.limits.Smallest.{Smallest}
+use Rattle.code.specs.declared.next.Next.{Next}
+use Rattle.code.specs.declared.next.After.{After}
+use Rattle.code.specs.Letters.{noLetters, samePair, placeOf, held, Learns, learntLetters}
+use Rattle.code.specs.Limits.{legal, SmallestCount}
+use Rattle.code.specs.Next.{isLetter, nextPair}
+use Rattle.code.specs.Read.{readCode, codeOf}
+use Rattle.code.proofs.Smallest.{one-smallest}
+use Rattle.request.specs.declared.Request.{Request}
+use Rattle.request.specs.declared.address.Address.{Address}
+use Rattle.request.specs.declared.fields.Sent.{Sent}
+use Rattle.request.specs.declared.mode.Mode.{Mode}
+use Rattle.request.specs.declared.mode.ModeRead.{ModeRead}
+use Rattle.request.specs.declared.name.Name.{Name}
+use Rattle.request.specs.declared.name.NameRead.{NameRead}
+use Rattle.request.specs.Address.{addressAt, hasModule, addressFault}
+use Rattle.request.specs.Fields.{capped, sentAt}
+use Rattle.request.specs.Mode.{modeAt, mayHave}
+use Rattle.request.specs.Name.{nameAt, nameOf}
+use Rattle.request.specs.Request.{readRequest}
+use Rattle.allowed.specs.Allowed.{One}
+use Rattle.allowed.proofs.Law.{one}
+
+-- text::number::is_digit
+pub text-is-digit : (b : ℕ) → One (λ (r : Bool). r ≡ isDigit b)
+text-is-digit b = one (isDigit b)
+
+-- text::number::number_at
+pub text-number-at : (s : List ℕ) (at : ℕ) → One (λ (r : Number). r ≡ numberAt s at)
+text-number-at s at = one (numberAt s at)
+
+-- text::field::byte_at
+pub text-byte-at : (s : List ℕ) (at : ℕ) → One (λ (r : ℕ). r ≡ getD s at 0)
+text-byte-at s at = one (getD s at 0)
+
+-- text::field::ends_field
+pub text-ends-field : (s : List ℕ) (at : ℕ) → One (λ (r : Bool). r ≡ endsField s at)
+text-ends-field s at = one (endsField s at)
+
+-- text::field::after_comma
+pub text-after-comma : (s : List ℕ) (at : ℕ) → One (λ (r : ℕ). r ≡ afterComma s at)
+text-after-comma s at = one (afterComma s at)
+
+-- text::field::field_is
+pub text-field-is : (s : List ℕ) (at : ℕ) (w : List ℕ) → One (λ (r : Bool). r ≡ fieldIs w (drop at s))
+text-field-is s at w = one (fieldIs w (drop at s))
+
+-- text::field::field_within
+pub text-field-within : (s : List ℕ) (at least most : ℕ) → One (λ (r : Field). r ≡ fieldWithin least most s at)
+text-field-within s at least most = one (fieldWithin least most s at)
+
+-- code::letters::Letters::none
+pub code-letters-none : One (λ (r : Letters). r ≡ noLetters)
+code-letters-none = one noLetters
+
+-- code::letters::same
+pub code-same : (p q : Pair) → One (λ (r : Bool). r ≡ samePair p q)
+code-same p q = one (samePair p q)
+
+-- code::letters::place_of
+pub code-place-of : (letters : Letters) (p : Pair) → One (λ (r : ℕ). r ≡ placeOf p (held letters))
+code-place-of letters p = one (placeOf p (held letters))
+
+-- code::letters::learn
+pub code-learn : (letters : Letters) (p : Pair) → One (Learns letters p)
+code-learn letters p a b x y = one (learntLetters letters p) a b (x .result) (y .result)
+
+-- code::limits::is_legal
+pub code-is-legal : (freq count : ℕ) → One (λ (r : Bool). r ≡ legal freq count)
+code-is-legal freq count = one (legal freq count)
+
+-- code::limits::smallest_count: its promise is a property, and allows one answer all the same
+pub code-smallest-count : (freq : ℕ) → One (SmallestCount freq)
+code-smallest-count freq = one-smallest freq
+
+-- code::next::is_letter
+pub code-is-letter : (b : ℕ) → One (λ (r : Bool). r ≡ isLetter b)
+code-is-letter b = one (isLetter b)
+
+-- code::next::next_pair
+pub code-next-pair : (freq pairs letters : ℕ) (after : After) (s : List ℕ) (at : ℕ)
+    → One (λ (r : Next). r ≡ nextPair freq pairs letters after s at)
+code-next-pair freq pairs letters after s at = one (nextPair freq pairs letters after s at)
+
+-- code::read::read_code
+pub code-read-code : (freq : ℕ) (s : List ℕ) (start : ℕ) → One (λ (r : Code). r ≡ codeOf (readCode freq s start))
+code-read-code freq s start = one (codeOf (readCode freq s start))
+
+-- request::address::address_at
+pub request-address-at : (s : List ℕ) (at : ℕ) → One (λ (r : Address). r ≡ addressAt s at)
+request-address-at s at = one (addressAt s at)
+
+-- request::address::has_module
+pub request-has-module : (name : Name) (m : ℕ) → One (λ (r : Bool). r ≡ hasModule name m)
+request-has-module name m = one (hasModule name m)
+
+-- request::address::address_fault
+pub request-address-fault : (name : Name) (m port : ℕ) → One (λ (r : ℕ). r ≡ addressFault name m port)
+request-address-fault name m port = one (addressFault name m port)
+
+-- request::fields::capped
+pub request-capped : (repeat : ℕ) → One (λ (r : ℕ). r ≡ capped repeat)
+request-capped repeat = one (capped repeat)
+
+-- request::fields::sent_at
+pub request-sent-at : (s : List ℕ) (at : ℕ) → One (λ (r : Sent). r ≡ sentAt s at)
+request-sent-at s at = one (sentAt s at)
+
+-- request::mode::mode_at
+pub request-mode-at : (s : List ℕ) (at : ℕ) → One (λ (r : ModeRead). r ≡ modeAt s at)
+request-mode-at s at = one (modeAt s at)
+
+-- request::mode::may_have
+pub request-may-have : (port : ℕ) (mode : Mode) → One (λ (r : Bool). r ≡ mayHave port mode)
+request-may-have port mode = one (mayHave port mode)
+
+-- request::name::name_at
+pub request-name-at : (s : List ℕ) → One (λ (r : NameRead). r ≡ nameAt s)
+request-name-at s = one (nameAt s)
+
+-- request::name::name_end
+pub request-name-end : (name : Name) → One (λ (r : ℕ). r ≡ length (nameOf name))
+request-name-end name = one (length (nameOf name))
+
+-- request::read::read_request
+pub request-read-request : (s : List ℕ) → One (λ (r : Request). r ≡ readRequest s)
+request-read-request s = one (readRequest s)

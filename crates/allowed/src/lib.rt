@@ -1,0 +1,1 @@
+// That each promise of a public function allows one outcome; no code.

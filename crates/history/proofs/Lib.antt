@@ -1,0 +1,10 @@
+pub mod Shown
+pub mod Fits
+pub mod Agrees
+pub mod Asking
+pub mod Joining
+pub mod Following
+pub mod Waits
+pub mod Later
+pub mod Composing
+pub mod Notions

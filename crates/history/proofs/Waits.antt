@@ -1,0 +1,221 @@
+-- Waiting composes: a wait and two of the same sum give the same completions, and all later answers are the same.
+use Prim.Native.Nat.{ℕ, suc, _+_, _-_, _≤_, _<_}
+use mathlib.Core.Path.{_≡_, refl, sym, ap, ap₂, _∙_, subst}
+use mathlib.Core.Bool.{Bool, true, false, cond, not}
+use mathlib.Core.List.{List, [], _∷_, _++_, map, append-assoc, map-append}
+use mathlib.Core.Option.{Option, none, some}
+use native.Mathlib.Omega.{arith}
+use native.Mathlib.Nat.{add-assoc, add-zero}
+use lib.Dec.{ltb}
+use borrow.Author.Tests.{ltb-true, ltb-false, lt-ltb, le-ltb}
+use Rattle.laws.proofs.Choice.{by-test, not-both, cond-case}
+use Rattle.request.specs.Request.{readRequest}
+use Rattle.waveform.specs.Waveform.{Transmission, complete, finish}
+use Rattle.waveform.proofs.Paced.{Fit, fit-later, complete-later}
+use Rattle.waveform.proofs.Meaning.{finish-tells, finish-first}
+use Rattle.connector.specs.declared.Completion.{Completion}
+use Rattle.connector.specs.Completions.{inserted}
+use Rattle.pace.specs.Pace.{micros}
+use Rattle.history.specs.Calls.{Call, line, overlong, reading, closing, waiting, longestWait, clock}
+use Rattle.history.specs.Known.{Known, onAir, known, relay, relaySet}
+use Rattle.history.specs.Known as k
+use Rattle.history.specs.Answers.{answerTo, dueOf, due, ordered, completions, completionsOf, carrierOf, carriers}
+use Rattle.history.specs.Replay.{Said, saidOf, replay}
+use Rattle.history.specs.Waiting.{movedBy}
+use Rattle.history.proofs.Shown.{FitFor}
+use Rattle.history.proofs.Fits.{known-fit}
+use Rattle.history.proofs.Joining.{ordered-append}
+
+-- ---- completions up to a moment, and behind it
+abbrev Upto : ℕ → List Completion → Type 0
+Upto a [] = Unit
+Upto a (x ∷ l) = (x .moment .0 ≤ a) × Upto a l
+
+abbrev Behind : ℕ → List Completion → Type 0
+Behind a [] = Unit
+Behind a (x ∷ l) = (a < x .moment .0) × Behind a l
+
+module _ (a : ℕ) where
+  upto-inserted : (x : Completion) (l : List Completion) → x .moment .0 ≤ a → Upto a l → Upto a (inserted x l)
+  upto-inserted x [] h u = (h, tt)
+  upto-inserted x (y ∷ l) h u =
+      cond-case (Upto a) (ltb (x .moment .0) (y .moment .0)) (x ∷ y ∷ l) (y ∷ inserted x l)
+      (λ e. (h, u)) (λ e. (u .0, upto-inserted x l h (u .1)))
+
+  behind-inserted : (x : Completion) (l : List Completion) → a < x .moment .0 → Behind a l → Behind a (inserted x l)
+  behind-inserted x [] h u = (h, tt)
+  behind-inserted x (y ∷ l) h u =
+      cond-case (Behind a) (ltb (x .moment .0) (y .moment .0)) (x ∷ y ∷ l) (y ∷ inserted x l)
+      (λ e. (h, u)) (λ e. (u .0, behind-inserted x l h (u .1)))
+
+  -- an early one goes among the early ones, a late one among the late ones
+  insert-early : (x : Completion) (l m : List Completion) → x .moment .0 ≤ a → Behind a m → inserted x (l ++ m) ≡ inserted x l ++ m
+  insert-early x [] [] h b = refl
+  insert-early x [] (y ∷ m) h b = rw (lt-ltb (x .moment .0) (y .moment .0) (omega (arith, b .0)))
+  insert-early x (y ∷ l) m h b = by (ltb (x .moment .0) (y .moment .0)) (insert-early x l m h b)
+    where
+      by : (v : Bool) → inserted x (l ++ m) ≡ inserted x l ++ m
+          → cond v (x ∷ y ∷ (l ++ m)) (y ∷ inserted x (l ++ m)) ≡ cond v (x ∷ y ∷ l) (y ∷ inserted x l) ++ m
+      by true e = refl
+      by false e = ap (λ (k : List Completion). y ∷ k) e
+
+  insert-late : (x : Completion) (l m : List Completion) → a < x .moment .0 → Upto a l → inserted x (l ++ m) ≡ l ++ inserted x m
+  insert-late x [] m h u = refl
+  insert-late x (y ∷ l) m h u =
+      rw (le-ltb (x .moment .0) (y .moment .0) (omega (arith, u .0)))
+      (ap (λ (k : List Completion). y ∷ k) (insert-late x l m h (u .1)))
+
+  upto-ordered : (l e : List Completion) → Upto a l → Upto a e → Upto a (ordered l e)
+  upto-ordered l [] u v = u
+  upto-ordered l (x ∷ e) u v = upto-ordered (inserted x l) e (upto-inserted x l (v .0) u) (v .1)
+
+  behind-ordered : (l e : List Completion) → Behind a l → Behind a e → Behind a (ordered l e)
+  behind-ordered l [] u v = u
+  behind-ordered l (x ∷ e) u v = behind-ordered (inserted x l) e (behind-inserted x l (v .0) u) (v .1)
+
+  ordered-early : (l m e : List Completion) → Upto a e → Behind a m → ordered (l ++ m) e ≡ ordered l e ++ m
+  ordered-early l m [] u b = refl
+  ordered-early l m (x ∷ e) u b =
+      ap (λ (k : List Completion). ordered k e) (insert-early x l m (u .0) b) ∙ ordered-early (inserted x l) m e (u .1) b
+
+  ordered-late : (l m e : List Completion) → Behind a e → Upto a l → ordered (l ++ m) e ≡ l ++ ordered m e
+  ordered-late l m [] b u = refl
+  ordered-late l m (x ∷ e) b u =
+      ap (λ (k : List Completion). ordered k e) (insert-late x l m (b .0) u) ∙ ordered-late l (inserted x m) e (b .1) u
+
+  -- so of one port more, with those that are early and those that are late
+  split-more : (l m e f : List Completion) → Upto a l → Behind a m → Upto a e → Behind a f
+      → ordered (l ++ m) (e ++ f) ≡ ordered l e ++ ordered m f
+  split-more l m e f u b v c =
+      ordered-append (l ++ m) e f ∙ ap (λ (k : List Completion). ordered k f) (ordered-early l m e v b)
+      ∙ ordered-late (ordered l e) m f c (upto-ordered l e u v)
+
+  split-three : (e₁ f₁ e₂ f₂ e₃ f₃ : List Completion) → Upto a e₁ → Behind a f₁ → Upto a e₂ → Behind a f₂ → Upto a e₃ → Behind a f₃
+      → ordered [] ((e₁ ++ f₁) ++ (e₂ ++ f₂) ++ (e₃ ++ f₃)) ≡ ordered [] (e₁ ++ e₂ ++ e₃) ++ ordered [] (f₁ ++ f₂ ++ f₃)
+  split-three e₁ f₁ e₂ f₂ e₃ f₃ u₁ b₁ u₂ b₂ u₃ b₃ =
+      three (e₁ ++ f₁) (e₂ ++ f₂) (e₃ ++ f₃)
+      ∙ ap (λ (k : List Completion). ordered (ordered k (e₂ ++ f₂)) (e₃ ++ f₃)) (split-more [] [] e₁ f₁ tt tt u₁ b₁)
+      ∙ ap (λ (k : List Completion). ordered k (e₃ ++ f₃))
+      (split-more (ordered [] e₁) (ordered [] f₁) e₂ f₂ (upto-ordered [] e₁ tt u₁) (behind-ordered [] f₁ tt b₁) u₂ b₂)
+      ∙ split-more (ordered (ordered [] e₁) e₂) (ordered (ordered [] f₁) f₂) e₃ f₃
+      (upto-ordered (ordered [] e₁) e₂ (upto-ordered [] e₁ tt u₁) u₂)
+      (behind-ordered (ordered [] f₁) f₂ (behind-ordered [] f₁ tt b₁) b₂) u₃ b₃
+      ∙ ap₂ (λ (x y : List Completion). x ++ y) (sym (three e₁ e₂ e₃)) (sym (three f₁ f₂ f₃))
+    where
+      three : (x y z : List Completion) → ordered [] (x ++ y ++ z) ≡ ordered (ordered (ordered [] x) y) z
+      three x y z = ordered-append [] (x ++ y) z ∙ ap (λ (k : List Completion). ordered k z) (ordered-append [] x y)
+
+-- ---- moments counted from earlier
+inserted-moved : (a : ℕ) (x : Completion) (l : List Completion) → inserted (movedBy a x) (map (movedBy a) l) ≡ map (movedBy a) (inserted x l)
+inserted-moved a x [] = refl
+inserted-moved a x (y ∷ l) =
+    rw (same-test (x .moment .0) (y .moment .0)) (by (ltb (x .moment .0) (y .moment .0)) (inserted-moved a x l))
+  where
+    same-test : (m n : ℕ) → ltb (a + m) (a + n) ≡ ltb m n
+    same-test m n =
+        by-test (ltb m n)
+        (λ e. lt-ltb (a + m) (a + n) (omega (arith, ltb-true m n e)) ∙ sym e)
+        (λ e. le-ltb (a + m) (a + n) (omega (arith, ltb-false m n e)) ∙ sym e)
+
+    by : (v : Bool) → inserted (movedBy a x) (map (movedBy a) l) ≡ map (movedBy a) (inserted x l)
+        → cond v (movedBy a x ∷ movedBy a y ∷ map (movedBy a) l) (movedBy a y ∷ inserted (movedBy a x) (map (movedBy a) l))
+        ≡ map (movedBy a) (cond v (x ∷ y ∷ l) (y ∷ inserted x l))
+    by true e = refl
+    by false e = ap (λ (k : List Completion). movedBy a y ∷ k) e
+
+ordered-moved : (a : ℕ) (l e : List Completion) → ordered (map (movedBy a) l) (map (movedBy a) e) ≡ map (movedBy a) (ordered l e)
+ordered-moved a l [] = refl
+ordered-moved a l (x ∷ e) =
+    ap (λ (k : List Completion). ordered k (map (movedBy a) e)) (inserted-moved a x l) ∙ ordered-moved a (inserted x l) e
+
+-- ---- what is due of one connector
+module _ (t a b port : ℕ) (x : Known) where
+  -- the completions of the whole wait are those of the first and, moved, those of the second
+  due-add : (o : Option Transmission) → FitFor t o
+      → dueOf t (a + b) port x (onAir t o) ≡ dueOf t a port x (onAir t o) ++ map (movedBy a) (dueOf (t + a) b port x (onAir (t + a) o))
+  due-add none g = refl
+  due-add (some s) g = by (complete s t) refl (complete s (t + a)) refl
+    where
+      late : complete s (t + a) ≡ false → finish s - t ≡ a + (finish s - (t + a))
+      late e = omega (arith, finish-first (fit-later g a) e .0)
+
+      second : complete s (t + a) ≡ false → (w : Bool)
+          → cond w (record { owner = x .owner; moment = micros (finish s - t); port = port; id = s .fields .id } ∷ []) []
+          ≡ map (movedBy a)
+          (cond w (record { owner = x .owner; moment = micros (finish s - (t + a)); port = port; id = s .fields .id } ∷ []) [])
+      second e true = rw (late e)
+      second e false = refl
+
+      by : (u : Bool) → complete s t ≡ u → (v : Bool) → complete s (t + a) ≡ v
+          → dueOf t (a + b) port x (cond u none (some s))
+          ≡ dueOf t a port x (cond u none (some s)) ++ map (movedBy a) (dueOf (t + a) b port x (cond v none (some s)))
+      by true d true e = refl
+      by true d false e = not-both (complete-later g a d) e
+      by false d true e = rw (← add-assoc t a b, complete-later (fit-later g a) b e, e)
+      by false d false e = rw (← add-assoc t a b, e) (second e (complete s (t + a + b)))
+
+  due-upto : (o : Option Transmission) → FitFor t o → Upto a (dueOf t a port x (onAir t o))
+  due-upto none g = tt
+  due-upto (some s) g = by (complete s t)
+    where
+      soon : (w : Bool) → complete s (t + a) ≡ w
+          → Upto a (cond w (record { owner = x .owner; moment = micros (finish s - t); port = port; id = s .fields .id } ∷ []) [])
+      soon true e = (omega (arith, finish-tells (fit-later g a) .0 e), tt)
+      soon false e = tt
+
+      by : (v : Bool) → Upto a (dueOf t a port x (cond v none (some s)))
+      by true = tt
+      by false = soon (complete s (t + a)) refl
+
+  due-behind : (o : Option Transmission) → FitFor t o → Behind a (map (movedBy a) (dueOf (t + a) b port x (onAir (t + a) o)))
+  due-behind none g = tt
+  due-behind (some s) g = by (complete s (t + a)) refl
+    where
+      soon : complete s (t + a) ≡ false → (w : Bool)
+          → Behind a
+          (map (movedBy a)
+          (cond w (record { owner = x .owner; moment = micros (finish s - (t + a)); port = port; id = s .fields .id } ∷ []) []))
+      soon e true = (omega (arith, finish-first (fit-later g a) e .0), tt)
+      soon e false = tt
+
+      by : (v : Bool) → complete s (t + a) ≡ v
+          → Behind a (map (movedBy a) (dueOf (t + a) b port x (cond v none (some s))))
+      by true e = tt
+      by false e = soon e (complete s (t + a + b))
+
+-- ---- the completions of the whole hub
+module _ (h : List Call) (a b : ℕ) (short : a + b ≤ longestWait) where
+  moment-a : clock (waiting a ∷ h) ≡ clock h + a
+  moment-a = rw (le-ltb longestWait a (omega arith))
+
+  abbrev early : ℕ → List Completion
+  early port = due h a port
+
+  abbrev late : ℕ → List Completion
+  late port = dueOf (clock h + a) b port (known h port) (onAir (clock h + a) (known h port .sending))
+
+  both : (port : ℕ) → due h (a + b) port ≡ early port ++ map (movedBy a) (late port)
+  both port = due-add (clock h) a b port (known h port) (known h port .sending) (known-fit h port)
+
+  pub completions-add : completions h (a + b) ≡ completions h a ++ map (movedBy a) (completions (waiting a ∷ h) b)
+  completions-add =
+      (λ i. ordered [] (both 1 i ++ both 2 i ++ both 3 i))
+      ∙ split-three a (early 1) (map (movedBy a) (late 1)) (early 2) (map (movedBy a) (late 2)) (early 3) (map (movedBy a) (late 3))
+      (upto 1) (behind 1) (upto 2) (behind 2) (upto 3) (behind 3)
+      ∙ ap (λ (l : List Completion). completions h a ++ l)
+      (ap (ordered []) (moved-three (late 1) (late 2) (late 3)) ∙ ordered-moved a [] (late 1 ++ late 2 ++ late 3)
+      ∙ ap (λ (t : ℕ). map (movedBy a)
+      (ordered []
+      (dueOf t b 1 (known h 1) (onAir t (known h 1 .sending)) ++ dueOf t b 2 (known h 2) (onAir t (known h 2 .sending))
+      ++ dueOf t b 3 (known h 3) (onAir t (known h 3 .sending))))) (sym moment-a))
+    where
+      upto : (port : ℕ) → Upto a (early port)
+      upto port = due-upto (clock h) a b port (known h port) (known h port .sending) (known-fit h port)
+
+      behind : (port : ℕ) → Behind a (map (movedBy a) (late port))
+      behind port = due-behind (clock h) a b port (known h port) (known h port .sending) (known-fit h port)
+
+      moved-three : (x y z : List Completion)
+          → map (movedBy a) x ++ map (movedBy a) y ++ map (movedBy a) z ≡ map (movedBy a) (x ++ y ++ z)
+      moved-three x y z =
+          sym (map-append (movedBy a) (x ++ y) z ∙ ap (λ (l : List Completion). l ++ map (movedBy a) z) (map-append (movedBy a) x y))

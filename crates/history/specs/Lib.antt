@@ -1,0 +1,5 @@
+pub mod Calls
+pub mod Known
+pub mod Answers
+pub mod Replay
+pub mod Waiting

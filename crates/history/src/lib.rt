@@ -1,0 +1,1 @@
+// What a history of calls means, and that the hub gives it; no code.

@@ -1,0 +1,6 @@
+pub mod Distinct
+pub mod Learnt
+pub mod Written
+pub mod ItemsRead
+pub mod Shown
+pub mod Exactly

@@ -1,0 +1,5 @@
+pub mod Storing
+pub mod Taking
+pub mod Keeps
+pub mod Cutting
+pub mod Feeding

@@ -1,0 +1,64 @@
+-- The copies written out: what they last, and where each begins in the pairs.
+use Prim.Native.Nat.{ℕ, zero, suc, _+_, _-_, _*_, _/_, _%_, _≤_}
+use mathlib.Core.Path.{_≡_, refl, sym, ap, _∙_}
+use mathlib.Core.List.{List, [], _∷_, _++_}
+use native.Mathlib.Nat.{mul-assoc}
+use native.Mathlib.Omega.{arith}
+use lib.ListN.{take, drop}
+use lib.Seq.{drop-nil}
+use Rattle.code.specs.declared.Pair.{Pair}
+use Rattle.request.specs.declared.fields.Fields.{Fields}
+use Rattle.pace.specs.Pace.{periodsOf, inTicks}
+use Rattle.pace.proofs.Lasting.{periods-split}
+use Rattle.store.specs.Store.{countsOf}
+use Rattle.waveform.specs.Waveform.{furtherCopy, times, waveform, lasts}
+
+lasts-append : (a b : List ℕ) → lasts (a ++ b) ≡ lasts a + lasts b
+lasts-append [] b = omega arith
+lasts-append (x ∷ a) b = omega (arith, lasts-append a b)
+
+lasts-times : (n : ℕ) (l : List ℕ) → lasts (times n l) ≡ n * lasts l
+lasts-times zero l = omega arith
+lasts-times (suc n) l = omega (arith, lasts-append l (times n l), lasts-times n l)
+
+pub lasts-counts : (ps : List Pair) → lasts (countsOf ps) ≡ periodsOf ps
+lasts-counts [] = refl
+lasts-counts (p ∷ ps) = omega (arith, lasts-counts ps)
+
+pub first-lasts : (k : ℕ) (ps : List Pair) → lasts (countsOf ps) ≡ periodsOf (take k ps) + periodsOf (drop k ps)
+first-lasts k ps = lasts-counts ps ∙ sym (periods-split k ps)
+
+counts-drop : (k : ℕ) (ps : List Pair) → drop (2 * k) (countsOf ps) ≡ countsOf (drop k ps)
+counts-drop zero ps = refl
+counts-drop (suc k) [] = drop-nil (2 * suc k)
+counts-drop (suc k) (p ∷ ps) =
+    let e : 2 * suc k ≡ suc (suc (2 * k)) = omega arith in
+    ap (λ (n : ℕ). drop n (countsOf (p ∷ ps))) e ∙ counts-drop k ps
+
+module _ (f : Fields) (ps : List Pair) (odd : f .offset % 2 ≡ 1) where
+  -- a further copy is the pairs from the offset on
+  pub further-is : furtherCopy f ps ≡ countsOf (drop (f .offset / 2) ps)
+  further-is =
+      let e : f .offset - 1 ≡ 2 * (f .offset / 2) = omega arith in
+      ap (λ (n : ℕ). drop n (countsOf ps)) e ∙ counts-drop (f .offset / 2) ps
+
+  pub further-lasts : lasts (furtherCopy f ps) ≡ periodsOf (drop (f .offset / 2) ps)
+  further-lasts = ap lasts further-is ∙ lasts-counts (drop (f .offset / 2) ps)
+
+  lasts-waveform : (n : ℕ) → 1 ≤ n
+      → lasts (waveform f ps n) ≡ periodsOf (take (f .offset / 2) ps) + n * periodsOf (drop (f .offset / 2) ps)
+  lasts-waveform zero h = absurd (omega arith)
+  lasts-waveform (suc n) h =
+      let e = ap (λ (k : ℕ). n * k) further-lasts in
+      omega (
+        arith,
+        lasts-append (countsOf ps) (times n (furtherCopy f ps)),
+        lasts-times n (furtherCopy f ps),
+        first-lasts (f .offset / 2) ps,
+      )
+
+  -- what so many copies last: the pairs before the offset, and in each copy those from it on
+  pub waveform-ticks : (n : ℕ) → 1 ≤ n
+      → inTicks (lasts (waveform f ps n))
+      ≡ inTicks (periodsOf (take (f .offset / 2) ps)) + n * inTicks (periodsOf (drop (f .offset / 2) ps))
+  waveform-ticks n h = omega (arith, lasts-waveform n h, mul-assoc n (periodsOf (drop (f .offset / 2) ps)) 1000000)

@@ -1,0 +1,1 @@
+// A transmission in exact time, all its copies written out, and that a pace is such a one; no code.

@@ -8,3 +8,10 @@ pub mod Waits
 pub mod Later
 pub mod Composing
 pub mod Notions
+pub mod Equal
+pub mod Readings
+pub mod Relays
+pub mod States
+pub mod Contacts
+pub mod Silent
+pub mod Bounds

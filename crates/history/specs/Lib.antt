@@ -3,3 +3,4 @@ pub mod Known
 pub mod Answers
 pub mod Replay
 pub mod Waiting
+pub mod Contact

@@ -22,12 +22,13 @@ use Rattle.connector.specs.declared.Connector.{Connector}
 use Rattle.connector.specs.declared.completions.Completions.{Completions}
 use Rattle.connector.specs.declared.judge.Verdict.{Verdict}
 use Rattle.connector.specs.declared.pass.ConnectorPassed.{ConnectorPassed}
+use Rattle.connector.specs.declared.pass.Done.{Done}
 use Rattle.connector.specs.Record.{freshConnector}
 use Rattle.connector.specs.Change as change
 use Rattle.connector.specs.Send.{transmitsNot, runOf, verdictOf}
 use Rattle.connector.specs.Pass.{passedConnector}
 use Rattle.connector.specs.Carrier.{carrierOf}
-use Rattle.connector.specs.Completions.{completionsOf}
+use Rattle.connector.specs.Completions.{completionsOf, joinedIn}
 use Rattle.allowed.specs.Allowed.{One}
 use Rattle.allowed.proofs.Law.{one}
 
@@ -114,10 +115,6 @@ connector-owns owner connection = one (change.owns owner connection)
 pub connector-told-of : (owner : Owner) (connection : ℕ) → One (λ (r : Owner). r ≡ change.toldOf owner connection)
 connector-told-of owner connection = one (change.toldOf owner connection)
 
--- connector::change::disowned
-pub connector-disowned : (c : Connector) (connection : ℕ) → One (λ (r : Connector). r ≡ change.disowned c connection)
-connector-disowned c connection = one (change.disowned c connection)
-
 -- connector::change::same_fields
 pub connector-same-fields : (a b : Fields) → One (λ (r : Bool). r ≡ change.sameFields a b)
 connector-same-fields a b = one (change.sameFields a b)
@@ -142,3 +139,15 @@ connector-carrier-of store slot c = one (carrierOf store slot (c .sending))
 -- connector::completions::Completions::none
 pub connector-no-completions : One (λ (r : Completions). r ≡ completionsOf [])
 connector-no-completions = one (completionsOf [])
+
+-- connector::completions::Completions::joined
+pub connector-joined : (self : Completions) (done : Done) → One (λ (r : Completions). r ≡ joinedIn self done)
+connector-joined self done = one (joinedIn self done)
+
+-- connector::closing::disown: the lent record
+pub connector-disown : (before : Connector) (connection : ℕ) → One (λ (after : Connector). after ≡ change.disowned before connection)
+connector-disown before connection = one (change.disowned before connection)
+
+-- connector::closing::disowned
+pub connector-disowned : (c : Connector) (connection : ℕ) → One (λ (r : Connector). r ≡ change.disowned c connection)
+connector-disowned c connection = one (change.disowned c connection)

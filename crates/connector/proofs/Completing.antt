@@ -1,32 +1,18 @@
 -- Laws of the completions of a wait, as the code keeps them: one more in its place, and how many there are.
-use Prim.Native.Nat.{ℕ, suc, _+_, _≤_}
-use mathlib.Core.Path.{_≡_, refl, ap, _∙_}
+use Prim.Native.Nat.{suc, _≤_}
+use mathlib.Core.Path.{_≡_, refl, ap}
 use mathlib.Core.Bool.{Bool, true, false, cond}
 use mathlib.Core.List.{List, [], _∷_}
 use native.Mathlib.Omega.{arith}
-use lib.Dec.{ltb, eqb}
-use lib.ListN.{length, getD}
-use Rattle.laws.specs.Checks.{_⇒_, first}
+use lib.Dec.{ltb}
+use lib.ListN.{length}
 use Rattle.laws.proofs.Choice.{cond-case}
 use Rattle.connector.specs.declared.Completion.{Completion}
-use Rattle.connector.specs.declared.completions.Completions.{Completions}
 use Rattle.connector.specs.declared.pass.Done.{Done}
 use Rattle.connector.specs.declared.pass.Done.the-variants.{Nothing, Complete}
-use Rattle.connector.specs.Completions.{inserted, joined, noCompletion, completionsOf, threeOf}
+use Rattle.connector.specs.Completions.{inserted, joined, completionsOf, threeOf, putIn, joinedIn}
 
 -- ---- one more in its place
-abbrev itemAt : Completions → ℕ → Completion
-itemAt s i = getD (s .items) i noCompletion
-
--- what the code does, as a table
-abbrev withOne : Completions → Completion → Completions
-withOne s x = first
-    ((eqb (s .count) 0 ⇒ threeOf 1 x (itemAt s 0) (itemAt s 1))
-    ∷ (ltb (x .moment .0) (itemAt s 0 .moment .0) ⇒ threeOf (s .count + 1) x (itemAt s 0) (itemAt s 1))
-    ∷ (eqb (s .count) 1 ⇒ threeOf 2 (itemAt s 0) x (itemAt s 1))
-    ∷ (ltb (x .moment .0) (itemAt s 1 .moment .0) ⇒ threeOf 3 (itemAt s 0) x (itemAt s 1))
-    ∷ []) (threeOf 3 (itemAt s 0) (itemAt s 1) x)
-
 module _ (x : Completion) where
   one-of-two : (y : Completion) (t : Bool)
       → cond t (completionsOf (x ∷ y ∷ [])) (completionsOf (y ∷ x ∷ [])) ≡ completionsOf (cond t (x ∷ y ∷ []) (y ∷ x ∷ []))
@@ -40,15 +26,16 @@ module _ (x : Completion) where
   one-of-three y z false true = refl
   one-of-three y z false false = refl
 
-  with-list : (l : List Completion) → length l ≤ 2 → withOne (completionsOf l) x ≡ completionsOf (inserted x l)
-  with-list [] h = refl
-  with-list (y ∷ []) h = one-of-two y (ltb (x .moment .0) (y .moment .0))
-  with-list (y ∷ z ∷ []) h = one-of-three y z (ltb (x .moment .0) (y .moment .0)) (ltb (x .moment .0) (z .moment .0))
-  with-list (y ∷ z ∷ w ∷ l) h = absurd (omega arith)
+  put-in-is : (l : List Completion) → length l ≤ 2 → putIn (completionsOf l) x ≡ completionsOf (inserted x l)
+  unfolding putIn
+  put-in-is [] h = refl
+  put-in-is (y ∷ []) h = one-of-two y (ltb (x .moment .0) (y .moment .0))
+  put-in-is (y ∷ z ∷ []) h = one-of-three y z (ltb (x .moment .0) (y .moment .0)) (ltb (x .moment .0) (z .moment .0))
+  put-in-is (y ∷ z ∷ w ∷ l) h = absurd (omega arith)
 
-  pub with-one : (s : Completions) (l : List Completion) → length l ≤ 2 → s ≡ completionsOf l
-      → withOne s x ≡ completionsOf (inserted x l)
-  with-one s l h e = ap (λ (s : Completions). withOne s x) e ∙ with-list l h
+pub joined-in-is : (d : Done) (l : List Completion) → length l ≤ 2 → joinedIn (completionsOf l) d ≡ completionsOf (joined d l)
+joined-in-is Nothing l h = refl
+joined-in-is (Complete x) l h = put-in-is x l h
 
 -- ---- how many there are
 inserted-length : (x : Completion) (l : List Completion) → length (inserted x l) ≡ suc (length l)

@@ -1,11 +1,12 @@
 -- The completions of a wait: "ordered by moment from the wait's start, then by port".
-use Prim.Native.Nat.{ℕ, _-_, _<_}
+use Prim.Native.Nat.{ℕ, _+_, _-_, _<_}
 use mathlib.Core.Path.{_≡_}
 use mathlib.Core.Logic.{_⊎_}
 use mathlib.Core.Bool.{cond}
 use mathlib.Core.List.{List, [], _∷_, _++_}
-use lib.Dec.{ltb}
-use lib.ListN.{length, replicate}
+use lib.Dec.{eqb, ltb}
+use lib.ListN.{length, getD, replicate}
+use Rattle.laws.specs.Checks.{_⇒_, first}
 use Rattle.pace.specs.Pace as pace
 use Rattle.connector.specs.declared.Owner.the-variants.{Nobody}
 use Rattle.connector.specs.declared.Completion.{Completion}
@@ -31,6 +32,22 @@ completionsOf l = record { count = length l; items = l ++ replicate (3 - length 
 
 abbrev pub threeOf : ℕ → Completion → Completion → Completion → Completions
 threeOf count a b c = record { count = count; items = a ∷ b ∷ c ∷ [] }
+
+abbrev pub itemAt : Completions → ℕ → Completion
+itemAt s i = getD (s .items) i noCompletion
+
+-- one more where there are at most two, in the record as the code keeps it; of the record of a list it makes that of `inserted`
+unfoldable pub putIn : Completions → Completion → Completions
+putIn s x = first
+    ((eqb (s .count) 0 ⇒ threeOf 1 x (itemAt s 0) (itemAt s 1))
+    ∷ (ltb (x .moment .0) (itemAt s 0 .moment .0) ⇒ threeOf (s .count + 1) x (itemAt s 0) (itemAt s 1))
+    ∷ (eqb (s .count) 1 ⇒ threeOf 2 (itemAt s 0) x (itemAt s 1))
+    ∷ (ltb (x .moment .0) (itemAt s 1 .moment .0) ⇒ threeOf 3 (itemAt s 0) x (itemAt s 1))
+    ∷ []) (threeOf 3 (itemAt s 0) (itemAt s 1) x)
+
+abbrev pub joinedIn : Completions → Done → Completions
+joinedIn s Nothing = s
+joinedIn s (Complete x) = putIn s x
 
 -- ---- their order
 

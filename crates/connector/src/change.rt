@@ -8,7 +8,7 @@ use request::fields::Fields;
 use request::mode::Mode;
 ghost use mathlib.Core.Path.{_≡_};
 ghost use Rattle.connector.specs.Record.{SoundSending};
-ghost use Rattle.connector.specs.Change.{sameMode, withMode, withReading, started, renewed, stopped, disowned, owns, toldOf, sameFields, isRunning};
+ghost use Rattle.connector.specs.Change.{sameMode, withMode, withReading, started, renewed, stopped, owns, toldOf, sameFields, isRunning};
 ghost use Rattle.connector.specs.Send.{transmitsNot};
 
 // Whether a connector in this mode transmits nothing ever.
@@ -160,23 +160,6 @@ pub fn told_of(owner: Owner, connection: u64) -> Owner
         Owner::Nobody
     } else {
         owner
-    }
-}
-
-// The connector once a connection is closed: its transmission runs on with no owner.
-pub fn disowned(c: Connector, connection: u64) -> Connector
-    ensures { λ r. ⌜ r ≡ disowned c connection ⌝ }
-{
-    let before = c.owner;
-    let owner = told_of(before, connection);
-    let mode = c.mode;
-    let contact = c.contact;
-    let sending = c.sending;
-    Connector {
-        owner,
-        mode,
-        contact,
-        sending,
     }
 }
 

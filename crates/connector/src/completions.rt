@@ -4,11 +4,9 @@ use crate::Owner;
 use crate::pass::Done;
 use pace::Micros;
 ghost use mathlib.Core.Path.{_≡_};
-ghost use mathlib.Core.List.{List, []};
+ghost use mathlib.Core.List.{[]};
 ghost use Prim.Native.Nat.{_≤_};
-ghost use lib.ListN.{length};
-ghost use Rattle.connector.specs.declared.Completion.{Completion};
-ghost use Rattle.connector.specs.Completions.{completionsOf, threeOf, inserted, joined};
+ghost use Rattle.connector.specs.Completions.{completionsOf, threeOf, putIn, joinedIn};
 
 // The completions of a wait in their order; those behind the count are none.
 pub struct Completions {
@@ -44,7 +42,7 @@ impl Completions {
     // One more, behind those that are not later.
     fn with(self, x: Completion) -> Self
         requires { ⌜ self .count ≤ 2 ⌝ }
-        ensures { λ r. ⌜ ((l : List Completion) → length l ≤ 2 → self ≡ completionsOf l → r ≡ completionsOf (inserted x l)) ⌝ }
+        ensures { λ r. ⌜ r ≡ putIn self x ⌝ }
     {
         let count = self.count;
         let items = self.items;
@@ -67,7 +65,7 @@ impl Completions {
 
     pub fn joined(self, done: Done) -> Self
         requires { ⌜ self .count ≤ 2 ⌝ }
-        ensures { λ r. ⌜ ((l : List Completion) → length l ≤ 2 → self ≡ completionsOf l → r ≡ completionsOf (joined done l)) ⌝ }
+        ensures { λ r. ⌜ r ≡ joinedIn self done ⌝ }
     {
         match done {
             Done::Nothing => self,

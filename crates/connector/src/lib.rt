@@ -60,6 +60,7 @@ impl Connector {
 
 pub mod carrier;
 pub mod change;
+pub mod closing;
 pub mod completions;
 pub mod judge;
 pub mod pass;

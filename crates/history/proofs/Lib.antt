@@ -15,3 +15,4 @@ pub mod States
 pub mod Contacts
 pub mod Silent
 pub mod Bounds
+pub mod Once

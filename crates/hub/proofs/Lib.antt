@@ -3,3 +3,4 @@ pub mod Ordered
 pub mod Keeps
 pub mod Contacts
 pub mod Refusals
+pub mod Closing

@@ -5,3 +5,4 @@ pub mod Calls
 pub mod Wait
 pub mod Refusals
 pub mod Ordered
+pub mod Closing

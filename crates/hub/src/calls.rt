@@ -51,9 +51,9 @@ pub fn closed(hub: Hub, connection: u64) -> Decided
     if Hub::MOST_CONNECTION < connection {
         return refused(hub, 102);
     }
-    let a = connector::change::disowned(hub.connectors[0], connection);
-    let b = connector::change::disowned(hub.connectors[1], connection);
-    let c = connector::change::disowned(hub.connectors[2], connection);
+    let a = connector::closing::disowned(hub.connectors[0], connection);
+    let b = connector::closing::disowned(hub.connectors[1], connection);
+    let c = connector::closing::disowned(hub.connectors[2], connection);
     let connectors = [a, b, c];
     let relays = hub.relays;
     Decided {

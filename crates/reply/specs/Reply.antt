@@ -1,6 +1,7 @@
 -- The bytes of each reply. Document 01's table, and: "An error line is `ERR_m:p,nnn`." "A reply ends with CR; its address and id have no
 -- leading zeros."
 use Prim.Native.Nat.{ℕ, _+_, _/_, _%_}
+use mathlib.Core.Path.{_≡_}
 use mathlib.Core.List.{List, [], _∷_, _++_}
 use Rattle.laws.specs.Bytes.{bytes}
 use Rattle.text.specs.Decimal.{decimal}
@@ -25,3 +26,8 @@ replyText (State m port state) = addressText (bytes "state,") m port ++ (bytes "
 replyText (Complete port id) = addressText (bytes "completeir,") 1 port ++ (bytes "," ++ decimal id ++ bytes "\r")
 replyText (Busy port id) = addressText (bytes "busyIR,") 1 port ++ (bytes "," ++ decimal id ++ bytes "\r")
 replyText (Stopped port) = addressText (bytes "stopir,") 1 port ++ bytes "\r"
+
+-- some text and a CR behind it
+pub record EndsWithCr (text : List ℕ) : Type 0 where
+  pub front : List ℕ
+  pub is : text ≡ front ++ (13 ∷ [])

@@ -10,7 +10,7 @@ use lib.Dec.{ltb}
 use lib.ListN.{length, set, length-append}
 use Rattle.laws.specs.Lists.{all}
 use Rattle.laws.specs.Put.{Put}
-use Rattle.laws.proofs.Choice.{by-test}
+use Rattle.laws.proofs.Choice.{by-test, cond-case}
 use Rattle.laws.proofs.Lists.{all-append}
 use Rattle.laws.proofs.Put.{then, byte}
 use Rattle.text.specs.Number.{isDigit, worth}
@@ -110,3 +110,29 @@ decimal-some n = by-test (ltb n 10) (λ e. rw e (omega arith)) (λ e. rw (e, len
 pub decimal-worth : (n : ℕ) → n < 1000000 → worth 0 (decimal n) ≡ n
 unfolding decimal
 decimal-worth n h = fine 20 n .value (omega arith)
+
+-- ---- no zero in front
+some-digit : (k n : ℕ) → 1 ≤ length (decimalIn (suc k) n)
+some-digit k n = cond-case (λ (l : List ℕ). 1 ≤ length l) (ltb n 10) _ _ (λ t. omega arith) (λ t. rw length-append (omega arith))
+
+front-of : (l : List ℕ) (b : ℕ) (ds : List ℕ) → 1 ≤ length l → l ++ (b ∷ []) ≡ 48 ∷ ds → (rest : List ℕ) × (l ≡ 48 ∷ rest)
+front-of [] b ds h e = absurd (omega arith)
+front-of (a ∷ l) b ds h e = let f : a ≡ 48 = cc in (l, rw f)
+
+one-digit : (n : ℕ) (ds : List ℕ) → n < 10 → (48 + n % 10) ∷ [] ≡ 48 ∷ ds → n ≡ 0
+one-digit n ds h e = let f : 48 + n % 10 ≡ 48 = cc in omega arith
+
+front-zero : (k n : ℕ) (ds : List ℕ) → n < 10 ^ suc k → decimalIn (suc k) n ≡ 48 ∷ ds → n ≡ 0
+front-zero zero n ds h e = one-digit n ds h (rw (lt-ltb n 10 h) at e)
+front-zero (suc k) n ds h e =
+    by-test (ltb n 10)
+    (λ t. one-digit n ds (ltb-true n 10 t) (rw t at e))
+    (λ t.
+    let f = front-of (decimalIn (suc k) (n / 10)) (48 + n % 10) ds (some-digit k (n / 10)) (rw t at e) in
+    let z = front-zero k (n / 10) (f .0) (tenth n (10 ^ suc k) (rw pow-succ' at h)) (f .1) in
+    absurd (omega (arith, ltb-false n 10 t)))
+
+-- a decimal of any 64-bit number begins with 0 only where it is 0
+pub no-leading-zero : (n : ℕ) (ds : List ℕ) → n < 2 ^ 64 → decimal n ≡ 48 ∷ ds → n ≡ 0
+unfolding decimal
+no-leading-zero n ds h e = front-zero 19 n ds (omega arith) e

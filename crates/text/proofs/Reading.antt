@@ -82,3 +82,8 @@ module _ {s : List ℕ} {at v n i : ℕ} (r : Reading s at v n i) where
       let l : length (run (drop at s)) ≡ n = omega (arith, r .count, ap length e) in
       let w : number (run (drop at s)) ≡ v = sym (r .same) ∙ ap (grow v n) e in
       simp (l, w, ← r .place)
+
+-- "leading zeros count for nothing", as long as the run has at most 6 digits with them
+pub zero-in-front : (ds : List ℕ) → length ds ≤ 5 → number (48 ∷ ds) ≡ number ds
+unfolding number
+zero-in-front ds h = rw (le-leb (length (48 ∷ ds)) 6 (omega arith), le-leb (length ds) 6 (omega arith))

@@ -2,7 +2,7 @@ use mathlib.Core.List.{[]}
 use native.Mathlib.Omega.{arith}
 use borrow.Author.Tests.{lt-ltb, le-ltb}
 use Rattle.connector.specs.Completions.{joined}
-use Rattle.connector.proofs.Completing.{few-of-one, few-of-two}
+use Rattle.connector.proofs.Completing.{joined-in-is, few-of-one, few-of-two}
 use Rattle.hub.specs.Wait.{waitedStep}
 use borrow.Author.Needs.{needs}
 use Rattle.hub.proofs.wait.wait.Statement.{statement}
@@ -43,23 +43,26 @@ joined-requires : tie.Need-joined-requires
 joined-requires c κs = rw (c .none2 .ensures) (omega arith)
 
 joined-requires-2 : tie.Need-joined-requires-2
-joined-requires-2 c κs = rw (c .joined .ensures [] (omega arith) (c .before .none2 .ensures)) (few-of-one (c .before .before .before .before .before .before .pass .result .done))
+joined-requires-2 c κs =
+    let a = c .before .before .before .before .before .before .pass .result .done in
+    rw (c .joined .ensures, c .before .none2 .ensures, joined-in-is a [] (omega arith)) (few-of-one a)
 
 joined-requires-3 : tie.Need-joined-requires-3
 joined-requires-3 c κs =
     let a = c .before .before .before .before .before .before .before .pass .result .done in
-    let one = c .before .joined .ensures [] (omega arith) (c .before .before .none2 .ensures) in
-    rw (c .joined2 .ensures (joined a []) (few-of-one a) one) (few-of-two a (c .before .before .before .before .before .pass2 .result .done))
+    let b = c .before .before .before .before .before .pass2 .result .done in
+    rw (c .joined2 .ensures, c .before .joined .ensures, c .before .before .none2 .ensures, joined-in-is a [] (omega arith), joined-in-is b (joined a []) (few-of-one a)) (few-of-two a b)
 
 returns-2 : tie.Need-returns-2
 unfolding waitedStep
 returns-2 c =
     let a = c .before .before .before .before .before .before .before .before .before .before .before .before .pass .result .done in
     let b = c .before .before .before .before .before .before .before .before .before .before .pass2 .result .done in
-    let one = c .before .before .before .before .before .before .joined .ensures [] (omega arith) (c .before .before .before .before .before .before .before .none2 .ensures) in
-    let two = c .before .before .before .before .before .joined2 .ensures (joined a []) (few-of-one a) one in
-    let three = c .before .before .before .before .joined3 .ensures (joined b (joined a [])) (few-of-two a b) two in
-    rw (le-ltb _ _ (c .before .before .before .before .before .before .before .before .before .before .before .before .before .before .if1 .left), three, c .before .before .before .before .before .before .before .before .before .before .before .before .pass .ensures, c .before .before .before .before .before .before .before .before .before .before .pass2 .ensures, c .before .before .before .before .before .before .before .before .pass3 .ensures)
+    let d = c .before .before .before .before .before .before .before .before .pass3 .result .done in
+    let one = joined-in-is a [] (omega arith) in
+    let two = joined-in-is b (joined a []) (few-of-one a) in
+    let three = joined-in-is d (joined b (joined a [])) (few-of-two a b) in
+    rw (le-ltb _ _ (c .before .before .before .before .before .before .before .before .before .before .before .before .before .before .if1 .left), c .before .before .before .before .joined3 .ensures, c .before .before .before .before .before .joined2 .ensures, c .before .before .before .before .before .before .joined .ensures, c .before .before .before .before .before .before .before .none2 .ensures, one, two, three, c .before .before .before .before .before .before .before .before .before .before .before .before .pass .ensures, c .before .before .before .before .before .before .before .before .before .before .pass2 .ensures, c .before .before .before .before .before .before .before .before .pass3 .ensures)
 
 pub wait-spec : {M : Type 1} → statement M
 wait-spec =

@@ -12,10 +12,10 @@ with-requires : tie.Need-with-requires
 with-requires c κs = search needs
 
 returns : tie.Need-returns
-returns c = λ l short same. rw (c .enum-told .given .1) same
+returns c = rw (c .enum-told .given .1)
 
 returns-2 : tie.Need-returns-2
-returns-2 c = λ l short same. rw (c .before .before .done .given .1) (c .with .ensures l short same)
+returns-2 c = rw (c .before .before .done .given .1) (c .with .ensures)
 
 pub joined-spec : {M : Type 1} → statement M
 joined-spec = tie.close (tie.spec enum-told enum-known-done with-requires returns returns-2)

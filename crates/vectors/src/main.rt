@@ -11,6 +11,7 @@ use writer::sendir::Command;
 use writer::sendir::Written;
 
 mod fill;
+mod handing;
 
 fn say(text: &[u8]) {
     io::write_all(STDOUT_FILENO, text);
@@ -275,6 +276,7 @@ fn wait_vector(micros: u64, expected: u64) {
 fn main() {
     faults();
     accepted();
+    handing::vectors();
     many_pairs();
     sixteen_pairs();
     long_lines();

@@ -1,5 +1,5 @@
 -- text, code and request: what is read.
-use Prim.Native.Nat.{ℕ, _≤_}
+use Prim.Native.Nat.{ℕ}
 use mathlib.Core.Path.{_≡_}
 use mathlib.Core.Bool.{Bool}
 use mathlib.Core.List.{List}
@@ -11,7 +11,6 @@ use Rattle.text.specs.Field.{endsField, afterComma, fieldIs, fieldWithin}
 use Rattle.code.specs.declared.Pair.{Pair}
 use Rattle.code.specs.declared.Code.{Code}
 use Rattle.code.specs.declared.letters.Letters.{Letters}
-use Rattle.code.specs.declared.limits.Smallest.{Smallest}
 use Rattle.code.specs.declared.next.Next.{Next}
 use Rattle.code.specs.declared.next.After.{After}
 use Rattle.code.specs.Letters.{noLetters, samePair, placeOf, held, Learns, learntLetters}

@@ -1,7 +1,7 @@
 -- What is accepted is within the limits: 1 to 260 pairs, each count legal.
-use Prim.Native.Nat.{ℕ, zero, suc, _+_, _≤_, _<_}
-use mathlib.Core.Path.{_≡_, refl, sym, ap, _∙_, subst}
-use mathlib.Core.Bool.{Bool, true, false}
+use Prim.Native.Nat.{ℕ, zero, suc, _+_, _≤_}
+use mathlib.Core.Path.{_≡_, refl, subst}
+use mathlib.Core.Bool.{true}
 use mathlib.Core.List.{List, [], _∷_, _++_}
 use native.Mathlib.Omega.{arith}
 use lib.Dec.{ltb}
@@ -14,7 +14,7 @@ use Rattle.code.specs.declared.next.Next.{Next}
 use Rattle.code.specs.declared.next.Next.the-variants.{End, Spelled, Letter, Fault}
 use Rattle.code.specs.declared.next.After.{After}
 use Rattle.code.specs.declared.next.After.the-variants.{Nothing, Spelling, Lettering}
-use Rattle.code.specs.Limits.{legal, legalPair}
+use Rattle.code.specs.Limits.{legalPair}
 use Rattle.code.specs.Letters.{pair, has, learnt}
 use Rattle.code.specs.Accepted.{Accepted}
 use Rattle.code.specs.Next.{nextPair}

@@ -1,6 +1,6 @@
 -- Laws of the loop that reads a code.
-use Prim.Native.Nat.{ℕ, zero, suc, _+_, _-_, _≤_, _<_}
-use mathlib.Core.Path.{_≡_, refl, sym, ap, _∙_, subst}
+use Prim.Native.Nat.{ℕ, suc, _+_, _-_, _<_}
+use mathlib.Core.Path.{_≡_, refl, ap, _∙_, subst}
 use mathlib.Core.List.{List, [], _∷_, _++_}
 use native.Mathlib.Numerals.{add-one}
 use native.Mathlib.Omega.{arith}
@@ -15,7 +15,7 @@ use Rattle.code.specs.declared.next.After.{After}
 use Rattle.code.specs.declared.next.After.the-variants.{Nothing, Spelling, Lettering}
 use Rattle.code.specs.Letters.{pair, noLetters, learnt, held, Kept}
 use Rattle.code.specs.Next.{nextPair}
-use Rattle.code.specs.Read.{Reading, pairs, fault, onward, readFrom, readCode, codeOf}
+use Rattle.code.specs.Read.{pairs, fault, onward, readFrom, readCode, codeOf}
 use Rattle.code.proofs.Filled.{Filled, filled-none, filled-taken, filled-more, filled-code}
 use Rattle.code.proofs.Nexts.{Sound, next-sound}
 

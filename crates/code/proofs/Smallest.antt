@@ -1,10 +1,10 @@
 -- Laws of the limits: what is legal, and the smallest legal count.
 use Prim.Native.Nat.{ℕ, _+_, _-_, _*_, _/_, _≤_, _<_}
-use mathlib.Core.Path.{_≡_, refl, sym, ap, _∙_}
-use mathlib.Core.Bool.{Bool, true, false, cond}
+use mathlib.Core.Path.{_≡_, sym, ap, _∙_}
+use mathlib.Core.Bool.{true, false}
 use native.Mathlib.Omega.{arith}
-use borrow.Author.Tests.{ltb-true, ltb-false, leb-true, leb-false, lt-ltb, le-ltb, le-leb, lt-leb}
-use lib.Dec.{ltb, leb}
+use borrow.Author.Tests.{ltb-true, ltb-false, leb-true, lt-ltb, le-ltb, le-leb, lt-leb}
+use lib.Dec.{ltb}
 use Rattle.laws.proofs.Choice.{by-test, not-both, guard}
 use Rattle.code.specs.declared.limits.Smallest.{Smallest}
 use Rattle.code.specs.declared.limits.Smallest.the-variants.{Refused, Count}

@@ -1,7 +1,7 @@
 -- What becomes of one connector, the same for each of them.
 use Prim.Native.Nat.{ℕ}
 use mathlib.Core.Bool.{Bool, true, false, cond, not}
-use mathlib.Core.List.{List, [], _∷_}
+use mathlib.Core.List.{[], _∷_}
 use lib.Dec.{eqb}
 use Rattle.laws.specs.Checks.{_⇒_, first}
 use Rattle.pace.specs.Pace as pace

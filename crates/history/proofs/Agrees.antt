@@ -1,32 +1,22 @@
 -- The hub's record and store are what the history means, and every call of theirs is answered as it says.
-use Prim.Native.Nat.{ℕ, zero, suc, _+_, _-_, _*_, _≤_, _<_}
-use mathlib.Core.Path.{_≡_, refl, sym, ap, ap₂, _∙_, subst}
-use mathlib.Core.Bool.{Bool, true, false, cond, not}
-use mathlib.Core.List.{List, [], _∷_, _++_}
-use mathlib.Core.Option.{Option, none, some}
+use Prim.Native.Nat.{ℕ, zero, suc, _-_}
+use mathlib.Core.Path.{_≡_, refl, sym, _∙_, subst}
+use mathlib.Core.Bool.{cond}
+use mathlib.Core.List.{List, [], _∷_}
 use native.Mathlib.Omega.{arith}
-use lib.Dec.{ltb, eqb}
+use lib.Dec.{eqb}
 use lib.ListN.{length, getD, set}
-use lib.Seq.{sets}
 use borrow.Author.Tests.{eq-eqb, eqb-true}
-use Rattle.laws.proofs.Choice.{by-test, not-both, cond-case}
-use Rattle.code.specs.declared.Pair.{Pair}
-use Rattle.request.specs.declared.fields.Fields.{Fields}
+use Rattle.laws.proofs.Choice.{not-both, cond-case}
 use Rattle.request.specs.Accepted.{PortWithin}
-use Rattle.store.specs.Store.{countsOf, slotCounts}
-use Rattle.store.proofs.Kept.{kept, others-kept}
-use Rattle.waveform.specs.Waveform.{Transmission, started, renewed}
-use Rattle.connector.specs.declared.Owner.the-variants.{Connection}
 use Rattle.connector.specs.declared.Connector.{Connector}
 use Rattle.connector.specs.Record.{freshConnector}
 use Rattle.hub.specs.declared.Answer.{Answer}
-use Rattle.hub.specs.declared.Answer.the-variants as answer
 use Rattle.hub.specs.declared.Hub.{Hub}
 use Rattle.hub.specs.Record.{connectorAt, withConnector}
 use Rattle.hub.specs.Send.{Step, decidedAs, unchanged}
-use Rattle.history.specs.Calls.{Call, clock}
-use Rattle.history.specs.Known.{Known, onAir, known, relay}
-use Rattle.history.proofs.Shown.{shown, shownAs, FitFor, HeldIn}
+use Rattle.history.specs.Known.{Known, onAir}
+use Rattle.history.proofs.Shown.{shown, HeldIn}
 
 -- ---- three of a kind, one for each port
 abbrev pub three : {A : Type 0} → (ℕ → A) → List A

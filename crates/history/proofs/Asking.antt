@@ -1,15 +1,15 @@
 -- What a request that was read from a line is answered, and what it makes of the hub, is what the history means.
-use Prim.Native.Nat.{ℕ, suc, _+_, _-_, _*_, _≤_, _<_}
-use mathlib.Core.Path.{_≡_, refl, sym, ap, ap₂, _∙_, subst}
-use mathlib.Core.Bool.{Bool, true, false, cond, not}
-use mathlib.Core.List.{List, [], _∷_, _++_}
+use Prim.Native.Nat.{ℕ, _-_, _*_}
+use mathlib.Core.Path.{_≡_, refl, sym, ap, _∙_}
+use mathlib.Core.Bool.{false, cond, not}
+use mathlib.Core.List.{List}
 use mathlib.Core.Option.{Option, none, some}
 use native.Mathlib.Omega.{arith}
-use lib.Dec.{ltb, eqb}
+use lib.Dec.{eqb}
 use lib.ListN.{length}
 use lib.Seq.{sets, length-sets}
 use borrow.Author.Tests.{ltb-true}
-use Rattle.laws.proofs.Choice.{by-test, not-both, cond-case}
+use Rattle.laws.proofs.Choice.{by-test, cond-case}
 use Rattle.code.specs.declared.Pair.{Pair}
 use Rattle.code.specs.Limits.{offsetWithin}
 use Rattle.code.specs.Read.{Reading, pairs, fault, readCode}
@@ -22,7 +22,7 @@ use Rattle.request.specs.declared.Request.{Request}
 use Rattle.request.specs.declared.Request.the-variants as request
 use Rattle.request.specs.Accepted.{PortWithin, FieldsWithin, SentWithin, Within}
 use Rattle.reply.specs.declared.Reply.the-variants as reply
-use Rattle.store.specs.Store.{countsOf, slotCounts}
+use Rattle.store.specs.Store.{countsOf}
 use Rattle.store.proofs.Kept.{kept, others-kept}
 use Rattle.waveform.specs.Waveform.{Transmission, started, renewed}
 use Rattle.waveform.proofs.Paced.{Fit, started-runs, renewed-runs}
@@ -37,18 +37,16 @@ use Rattle.connector.specs.Change.{owns, sameMode}
 use Rattle.connector.specs.Send.{transmitsNot, runOf}
 use Rattle.hub.specs.declared.Answer.{Answer}
 use Rattle.hub.specs.declared.Answer.the-variants as answer
-use Rattle.hub.specs.declared.Decided.{Decided}
 use Rattle.hub.specs.declared.Hub.{Hub}
-use Rattle.hub.specs.Record.{connectorAt, withConnector}
-use Rattle.hub.specs.Send as send
+use Rattle.hub.specs.Record.{withConnector}
 use Rattle.hub.specs.Send.{Step, decidedAs, unchanged, byVerdict, sendStep, codeRead, codeStep, fieldsRead, sentStep}
 use Rattle.hub.specs.Line as asking
 use Rattle.hub.specs.Line.{askedStep}
 use Rattle.history.specs.Calls.{Call, clock}
-use Rattle.history.specs.Known.{Known, Sendir, wrong, command, onAir, transmits, withSending, withMode, codeOf, sendirOf, sameCommand, commanded, sentTo, concerns, asked, known, relaySet, relay}
+use Rattle.history.specs.Known.{Known, onAir, transmits, withSending, withMode, codeOf, sendirOf, sameCommand, commanded, concerns, asked, known, relaySet, relay}
 use Rattle.history.specs.Answers.{replied, error, contactSaid, commandSaid, sendirSaid, told, requestSaid}
-use Rattle.history.proofs.Shown.{shown, FitFor, HeldIn, fit-on-air, runs-on-air, mode-shown, contact-shown, running-shown, with-mode-shown, stopped-shown, told-shown, started-shown, renewed-shown, verdictOn, verdict-shown}
-use Rattle.history.proofs.Fits.{Legal, LegalIn, sendir-legal, known-fit}
+use Rattle.history.proofs.Shown.{shown, FitFor, HeldIn, fit-on-air, mode-shown, contact-shown, running-shown, with-mode-shown, told-shown, started-shown, renewed-shown, verdictOn, verdict-shown}
+use Rattle.history.proofs.Fits.{Legal, known-fit}
 use Rattle.history.proofs.Agrees.{hubOf, Stored, Means, get-three, set-three, connector-at, changedAt, put-hub, changed-held, put-at, keep-at}
 
 module _ (h : List Call) (store : List ℕ) (st : Stored store (clock h) (known h)) where

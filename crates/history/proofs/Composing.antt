@@ -10,7 +10,7 @@ use Rattle.hub.specs.declared.Hub.{Hub}
 use Rattle.hub.specs.Record.{freshHub}
 use Rattle.history.specs.Calls.{Call, waiting, longestWait, clock}
 use Rattle.history.specs.Known.{known, relay}
-use Rattle.history.specs.Answers.{completions, completionsOf}
+use Rattle.history.specs.Answers.{completions, returned}
 use Rattle.history.specs.Replay.{Outcome, run, called}
 use Rattle.history.specs.Waiting.{movedBy, Reached, reached, at, afterwards, Composes}
 use Rattle.history.proofs.Agrees.{hubOf, Stored}
@@ -45,7 +45,7 @@ module _ (h : List Call) (store : List ℕ) (st : Stored store (clock h) (known 
   abbrev now : Reached
   now = record { hub = hubAfter h; store = store }
 
-  listed : (k : List Call) (n : ℕ) → n ≤ longestWait → completionsOf k (waiting n) ≡ completions k n
+  listed : (k : List Call) (n : ℕ) → n ≤ longestWait → returned k (waiting n) ≡ completions k n
   listed k n low = rw (le-ltb longestWait n low)
 
   first-hub : at now (waiting a) .step .decided .hub ≡ hubAfter (waiting a ∷ h)

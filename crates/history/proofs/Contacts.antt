@@ -19,7 +19,7 @@ use Rattle.connector.specs.declared.Contact.the-variants.{Unread, Read}
 use Rattle.connector.specs.Send.{transmitsNot}
 use Rattle.hub.specs.declared.Answer.the-variants as answer
 use Rattle.history.specs.Calls.{Call, line, reading}
-use Rattle.history.specs.Known.{known, relay}
+use Rattle.history.specs.Known.{known}
 use Rattle.history.specs.Answers.{error, replied, contactSaid, answerTo}
 use Rattle.history.specs.Contact.{TakesReading, Quiet, LastReading, Heard, LastSetting}
 use Rattle.history.proofs.Readings.{Kept, clash, Takes, takes, Turned, stays, reads, turns, turned}

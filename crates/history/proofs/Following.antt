@@ -1,12 +1,12 @@
 -- From a fresh hub, over any list of calls: all that the hub says is what the history means.
-use Prim.Native.Nat.{ℕ, suc, _+_, _-_, _≤_}
+use Prim.Native.Nat.{ℕ, _+_, _-_}
 use mathlib.Core.Path.{_≡_, refl, sym, ap, ap₂, _∙_, subst}
 use mathlib.Core.Bool.{Bool, true, false, cond, not}
 use mathlib.Core.List.{List, [], _∷_, _++_}
 use mathlib.Core.Option.{Option, none, some}
 use native.Mathlib.Omega.{arith}
-use lib.Dec.{ltb, eqb}
-use lib.ListN.{length, take, getD, replicate}
+use lib.Dec.{ltb}
+use lib.ListN.{length, take, replicate}
 use borrow.Author.Tests.{ltb-true, ltb-false, ne-eqb}
 use Rattle.laws.proofs.Choice.{by-test, not-both}
 use Rattle.request.specs.Accepted.{PortWithin}
@@ -14,8 +14,6 @@ use Rattle.request.specs.Request.{readRequest}
 use Rattle.request.proofs.Accepted.{within}
 use Rattle.waveform.specs.Waveform.{Transmission, complete}
 use Rattle.waveform.proofs.Paced.{complete-later}
-use Rattle.connector.specs.declared.Contact.the-variants.{Read}
-use Rattle.connector.specs.declared.Connector.{Connector}
 use Rattle.connector.specs.declared.Completion.{Completion}
 use Rattle.connector.specs.declared.pass.Done.{Done}
 use Rattle.connector.specs.declared.pass.Done.the-variants.{Nothing, Complete}
@@ -24,7 +22,7 @@ use Rattle.connector.specs.Change.{toldOf}
 use Rattle.connector.specs.Send.{transmitsNot}
 use Rattle.connector.specs.Carrier as carried
 use Rattle.connector.specs.Completions as completed
-use Rattle.connector.specs.Completions.{inserted, joined, doneOf, noCompletion}
+use Rattle.connector.specs.Completions.{joined, doneOf, noCompletion}
 use Rattle.connector.specs.Pass.{passedConnector}
 use Rattle.hub.specs.declared.Answer.{Answer}
 use Rattle.hub.specs.declared.Answer.the-variants as answer
@@ -33,15 +31,15 @@ use Rattle.hub.specs.Record.{freshHub, connectorAt, withConnector}
 use Rattle.hub.specs.Send.{Step, decidedAs, unchanged}
 use Rattle.hub.specs.Line.{lineStep, overlongStep}
 use Rattle.hub.specs.Calls.{decidedRefusal, readingStep, closedStep, carriersOf}
-use Rattle.hub.specs.Wait.{passedAt, waitedHub, waitedStep}
+use Rattle.hub.specs.Wait.{passedAt, waitedStep}
 use Rattle.hub.specs.Wait as waits
 use Rattle.history.specs.Calls.{Call, line, overlong, reading, closing, waiting, longestWait, clock}
-use Rattle.history.specs.Known.{Known, onAir, withSending, readAs, known, relay}
-use Rattle.history.specs.Answers.{replied, error, answerTo, due, ordered, completions, completionsOf, carrierAt, carriers}
+use Rattle.history.specs.Known.{onAir, withSending, readAs, known, relay}
+use Rattle.history.specs.Answers.{error, answerTo, due, ordered, completions, returned, carrierAt, carriers}
 use Rattle.history.specs.Replay.{Said, Outcome, saidOf, replay, plain, listed, called, run}
 use Rattle.history.proofs.Shown.{shown, FitFor, HeldIn, mode-shown, with-reading-shown, closed-shown, passed-shown, carrier-shown}
 use Rattle.history.proofs.Fits.{known-fit}
-use Rattle.history.proofs.Agrees.{three, each-port, hubOf, Stored, Means, means-alike, connector-at, put-at, keep-at}
+use Rattle.history.proofs.Agrees.{three, hubOf, Stored, Means, means-alike, connector-at, put-at, keep-at}
 use Rattle.history.proofs.Asking.{asked-means}
 use Rattle.history.proofs.Joining.{ordered-append}
 
@@ -51,7 +49,7 @@ hubAfter h = hubOf (clock h) (known h) (relay h)
 -- an outcome of the hub's call is what the history means
 pub record Follows (h : List Call) (call : Call) (o : Outcome) : Type 0 where
   pub said : o .step .decided .answer ≡ answerTo h call
-  pub completed : o .completions ≡ completionsOf h call
+  pub completed : o .completions ≡ returned h call
   pub hub : o .step .decided .hub ≡ hubAfter (call ∷ h)
   pub stored : Stored (o .step .store) (clock (call ∷ h)) (known (call ∷ h))
 
@@ -208,7 +206,7 @@ module _ (h : List Call) (store : List ℕ) (st : Stored store (clock h) (known 
       })
 
   -- ---- every call
-  plainly : {call : Call} {step : Step} → Plainly h call step → clock (call ∷ h) ≡ clock h → completionsOf h call ≡ []
+  plainly : {call : Call} {step : Step} → Plainly h call step → clock (call ∷ h) ≡ clock h → returned h call ≡ []
       → Follows h call (plain step)
   plainly {call} {step} m c d =
       record {

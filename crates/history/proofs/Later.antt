@@ -1,7 +1,7 @@
 -- Histories that are alike, the same moment and the same connectors and relays, are answered alike for ever.
 use Prim.Native.Nat.{ℕ, _+_, _≤_}
-use mathlib.Core.Path.{_≡_, refl, sym, ap, ap₂, _∙_}
-use mathlib.Core.Bool.{Bool, cond, not}
+use mathlib.Core.Path.{_≡_, refl, ap, ap₂}
+use mathlib.Core.Bool.{cond, not}
 use mathlib.Core.List.{List, [], _∷_, _++_}
 use native.Mathlib.Omega.{arith}
 use native.Mathlib.Nat.{add-assoc, add-zero}
@@ -12,14 +12,13 @@ use Rattle.request.specs.declared.Request.{Request}
 use Rattle.request.specs.declared.Request.the-variants as request
 use Rattle.request.specs.Request.{readRequest}
 use Rattle.reply.specs.declared.Reply.the-variants as reply
-use Rattle.connector.specs.declared.Completion.{Completion}
 use Rattle.connector.specs.Change.{toldOf}
 use Rattle.connector.specs.Send.{transmitsNot}
 use Rattle.hub.specs.declared.Answer.{Answer}
 use Rattle.hub.specs.declared.Answer.the-variants as answer
 use Rattle.history.specs.Calls.{Call, line, overlong, reading, closing, waiting, longestWait, clock}
 use Rattle.history.specs.Known.{Known, onAir, transmits, withSending, readAs, sendirOf, concerns, asked, relaySet, known, relay}
-use Rattle.history.specs.Answers.{replied, error, contactSaid, sendirSaid, told, requestSaid, answerTo, dueOf, ordered, completions, completionsOf, carrierOf, carriers}
+use Rattle.history.specs.Answers.{replied, error, contactSaid, sendirSaid, told, requestSaid, answerTo, dueOf, ordered, returned, carrierOf, carriers}
 use Rattle.history.specs.Replay.{Said, saidOf, replay}
 
 record Alike (h k : List Call) : Type 0 where
@@ -98,7 +97,7 @@ module _ (h k : List Call) (q : Alike h k) where
       ≡ dueOf (clock k) n port (known k port) (onAir (clock k) (known k port .sending))
   due-same n port = ap₂ (λ (t : ℕ) (x : Known). dueOf t n port x (onAir t (x .sending))) (q .clocks) (q .knowns port)
 
-  completions-same : (call : Call) → completionsOf h call ≡ completionsOf k call
+  completions-same : (call : Call) → returned h call ≡ returned k call
   completions-same (line connection room text) = refl
   completions-same (overlong connection room) = refl
   completions-same (reading port value) = refl
@@ -125,20 +124,6 @@ pub clock-add : (h : List Call) (a b : ℕ) → a + b ≤ longestWait → clock 
 clock-add h a b short =
     rw (le-ltb longestWait a (omega arith), le-ltb longestWait b (omega arith), le-ltb longestWait (a + b) short)
     (add-assoc (clock h) a b)
-
--- an accepted wait and two of the same sum: all that is said later is the same
-pub later-same : (h : List Call) (a b : ℕ) → a + b ≤ longestWait → (l : List Call)
-    → replay (waiting b ∷ waiting a ∷ h) l ≡ replay (waiting (a + b) ∷ h) l
-later-same h a b short l =
-    replay-same (waiting b ∷ waiting a ∷ h) (waiting (a + b) ∷ h) l
-    (record { clocks = clock-add h a b short; knowns = λ port. refl; relays = λ port. refl })
-
--- and so are the carriers at once
-pub carriers-add : (h : List Call) (a b : ℕ) → a + b ≤ longestWait
-    → carriers (waiting b ∷ waiting a ∷ h) ≡ carriers (waiting (a + b) ∷ h)
-carriers-add h a b short =
-    carriers-same (waiting b ∷ waiting a ∷ h) (waiting (a + b) ∷ h)
-    (record { clocks = clock-add h a b short; knowns = λ port. refl; relays = λ port. refl })
 
 -- "A wait of 0 changes nothing."
 pub wait-of-0 : (h l : List Call) → replay (waiting 0 ∷ h) l ≡ replay h l

@@ -1,12 +1,11 @@
 -- A transmission completes once; a closed connection owns nothing; a wait of 0 completes nothing.
 use Prim.Native.Nat.{ℕ, _+_, _-_, _<_}
-use mathlib.Core.Path.{_≡_, refl, sym, ap, _∙_, subst}
-use mathlib.Core.Bool.{Bool, true, false, cond}
+use mathlib.Core.Path.{_≡_, refl, sym, _∙_, subst}
+use mathlib.Core.Bool.{false, cond}
 use mathlib.Core.List.{List, [], _∷_, _++_}
 use mathlib.Core.Option.{Option, none, some}
-use native.Mathlib.Omega.{arith}
 use native.Mathlib.Nat.{add-zero}
-use lib.Dec.{ltb, leb, eqb}
+use lib.Dec.{ltb, leb}
 use borrow.Author.Tests.{le-leb, lt-leb, leb-true, leb-false}
 use Rattle.laws.proofs.Choice.{by-test, not-both}
 use Rattle.pace.specs.Pace.{micros}
@@ -14,10 +13,8 @@ use Rattle.waveform.specs.Waveform.{Transmission, complete, finish}
 use Rattle.waveform.proofs.Paced.{Fit, fit-later, complete-later}
 use Rattle.waveform.proofs.Meaning.{finish-tells}
 use Rattle.connector.specs.declared.Owner.{Owner}
-use Rattle.connector.specs.declared.Owner.the-variants.{Nobody, Connection}
-use Rattle.connector.specs.declared.Completion.{Completion}
 use Rattle.connector.specs.Change.{owns, toldOf}
-use Rattle.history.specs.Calls.{Call, closing, waiting, clock}
+use Rattle.history.specs.Calls.{Call, closing, clock}
 use Rattle.history.specs.Known.{onAir, known}
 use Rattle.history.specs.Answers.{dueOf, due, ordered, completions}
 use Rattle.history.proofs.Shown.{FitFor, fit-on-air, runs-on-air}

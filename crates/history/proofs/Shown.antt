@@ -4,7 +4,7 @@ use mathlib.Core.Path.{_≡_, refl, sym, ap, _∙_}
 use mathlib.Core.Bool.{Bool, true, false, cond, not, _&&_}
 use mathlib.Core.List.{List, [], _∷_}
 use mathlib.Core.Option.{Option, none, some}
-use lib.Dec.{ltb, eqb}
+use lib.Dec.{eqb}
 use lib.ListN.{length}
 use borrow.Author.Tests.{eq-eqb, eqb-true}
 use Rattle.laws.proofs.Choice.{by-test, not-both, cond-map}
@@ -13,29 +13,25 @@ use Rattle.code.specs.Accepted.{Accepted}
 use Rattle.request.specs.declared.fields.Fields.{Fields}
 use Rattle.request.specs.declared.mode.Mode.{Mode}
 use Rattle.request.specs.Accepted.{FieldsWithin}
-use Rattle.pace.specs.declared.Passed.{Passed}
 use Rattle.pace.specs.declared.Passed.the-variants as passed
 use Rattle.pace.specs.Pace.{micros}
-use Rattle.store.specs.Store.{countsOf, slotCounts, alike, onAt}
+use Rattle.store.specs.Store.{countsOf, slotCounts, alike}
 use Rattle.store.proofs.Kept.{alike-same, counts-same}
-use Rattle.waveform.specs.Waveform.{Transmission, complete, finish, started, renewed, carrier}
+use Rattle.waveform.specs.Waveform.{Transmission, complete, finish, started, renewed}
 use Rattle.waveform.proofs.Paced.{Fit, paceAt, pace-started, pace-renewed, started-runs, renewed-runs, complete-later, passed-is}
 use Rattle.waveform.proofs.Carried.{carrier-paced}
-use Rattle.connector.specs.declared.Owner.{Owner}
 use Rattle.connector.specs.declared.Owner.the-variants.{Nobody, Connection}
 use Rattle.connector.specs.declared.Contact.the-variants.{Unread, Read}
 use Rattle.connector.specs.declared.Run.{Run}
 use Rattle.connector.specs.declared.Sending.the-variants.{Idle, Running}
 use Rattle.connector.specs.declared.Connector.{Connector}
-use Rattle.connector.specs.declared.Completion.{Completion}
 use Rattle.connector.specs.declared.judge.Verdict.{Verdict}
 use Rattle.connector.specs.declared.judge.Verdict.the-variants as verdict
-use Rattle.connector.specs.declared.pass.ConnectorPassed.{ConnectorPassed}
 use Rattle.connector.specs.Change as change
 use Rattle.connector.specs.Change.{isRunning, owns, toldOf, sameMode, sameFields}
 use Rattle.connector.specs.Send as send
-use Rattle.connector.specs.Send.{runOf, verdictIn}
-use Rattle.connector.specs.Pass.{passedRun, passedSending, passedConnector}
+use Rattle.connector.specs.Send.{runOf}
+use Rattle.connector.specs.Pass.{passedRun, passedConnector}
 use Rattle.connector.specs.Carrier as carried
 use Rattle.connector.specs.Completions.{doneOf}
 use Rattle.history.specs.Known.{Known, onAir, isSome, transmits, withSending, withMode, sameCommand}
@@ -125,13 +121,6 @@ with-reading-shown t x value = go (onAir t (x .sending))
     go : (o : Option Transmission)
         → shownAs t (record { owner = x .owner; mode = x .mode; contact = Read value; sending = x .sending }) o
         ≡ change.withReading (shownAs t x o) value
-    go none = refl
-    go (some s) = refl
-
-pub stopped-shown : (t : ℕ) (x : Known) → shown t (withSending x Nobody none) ≡ change.stopped (shown t x)
-stopped-shown t x = go (onAir t (x .sending))
-  where
-    go : (o : Option Transmission) → shown t (withSending x Nobody none) ≡ change.stopped (shownAs t x o)
     go none = refl
     go (some s) = refl
 

@@ -1,26 +1,23 @@
 -- Waiting composes: a wait and two of the same sum give the same completions, and all later answers are the same.
-use Prim.Native.Nat.{ℕ, suc, _+_, _-_, _≤_, _<_}
-use mathlib.Core.Path.{_≡_, refl, sym, ap, ap₂, _∙_, subst}
-use mathlib.Core.Bool.{Bool, true, false, cond, not}
-use mathlib.Core.List.{List, [], _∷_, _++_, map, append-assoc, map-append}
+use Prim.Native.Nat.{ℕ, _+_, _-_, _≤_, _<_}
+use mathlib.Core.Path.{_≡_, refl, sym, ap, ap₂, _∙_}
+use mathlib.Core.Bool.{Bool, true, false, cond}
+use mathlib.Core.List.{List, [], _∷_, _++_, map, map-append}
 use mathlib.Core.Option.{Option, none, some}
 use native.Mathlib.Omega.{arith}
-use native.Mathlib.Nat.{add-assoc, add-zero}
+use native.Mathlib.Nat.{add-assoc}
 use lib.Dec.{ltb}
 use borrow.Author.Tests.{ltb-true, ltb-false, lt-ltb, le-ltb}
 use Rattle.laws.proofs.Choice.{by-test, not-both, cond-case}
-use Rattle.request.specs.Request.{readRequest}
 use Rattle.waveform.specs.Waveform.{Transmission, complete, finish}
-use Rattle.waveform.proofs.Paced.{Fit, fit-later, complete-later}
+use Rattle.waveform.proofs.Paced.{fit-later, complete-later}
 use Rattle.waveform.proofs.Meaning.{finish-tells, finish-first}
 use Rattle.connector.specs.declared.Completion.{Completion}
 use Rattle.connector.specs.Completions.{inserted}
 use Rattle.pace.specs.Pace.{micros}
-use Rattle.history.specs.Calls.{Call, line, overlong, reading, closing, waiting, longestWait, clock}
-use Rattle.history.specs.Known.{Known, onAir, known, relay, relaySet}
-use Rattle.history.specs.Known as k
-use Rattle.history.specs.Answers.{answerTo, dueOf, due, ordered, completions, completionsOf, carrierOf, carriers}
-use Rattle.history.specs.Replay.{Said, saidOf, replay}
+use Rattle.history.specs.Calls.{Call, waiting, longestWait, clock}
+use Rattle.history.specs.Known.{Known, onAir, known}
+use Rattle.history.specs.Answers.{dueOf, due, ordered, completions}
 use Rattle.history.specs.Waiting.{movedBy}
 use Rattle.history.proofs.Shown.{FitFor}
 use Rattle.history.proofs.Fits.{known-fit}

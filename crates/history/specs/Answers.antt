@@ -1,6 +1,6 @@
 -- What the next call is answered after a history, the completions of a wait, and the carriers.
 use Prim.Native.Nat.{ℕ, _+_, _-_}
-use mathlib.Core.Bool.{Bool, true, false, cond, not}
+use mathlib.Core.Bool.{Bool, false, cond, not}
 use mathlib.Core.List.{List, [], _∷_, _++_}
 use mathlib.Core.Option.{Option, none, some}
 use lib.Dec.{ltb}
@@ -116,12 +116,12 @@ abbrev pub completions : List Call → ℕ → List Completion
 completions h n = ordered [] (due h n 1 ++ due h n 2 ++ due h n 3)
 
 -- "A wait returns up to three completions"; no other call does
-abbrev pub completionsOf : List Call → Call → List Completion
-completionsOf h (line connection room text) = []
-completionsOf h (overlong connection room) = []
-completionsOf h (reading port value) = []
-completionsOf h (closing connection) = []
-completionsOf h (waiting n) = cond (ltb longestWait n) [] (completions h n)
+abbrev pub returned : List Call → Call → List Completion
+returned h (line connection room text) = []
+returned h (overlong connection room) = []
+returned h (reading port value) = []
+returned h (closing connection) = []
+returned h (waiting n) = cond (ltb longestWait n) [] (completions h n)
 
 -- ---- carriers
 

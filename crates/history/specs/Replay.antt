@@ -6,7 +6,6 @@ use lib.ListN.{take}
 use Rattle.connector.specs.declared.Completion.{Completion}
 use Rattle.connector.specs.declared.completions.Completions.{Completions}
 use Rattle.hub.specs.declared.Answer.{Answer}
-use Rattle.hub.specs.declared.Decided.{Decided}
 use Rattle.hub.specs.declared.Waited.{Waited}
 use Rattle.hub.specs.declared.Hub.{Hub}
 use Rattle.hub.specs.Send.{Step, unchanged}
@@ -14,7 +13,7 @@ use Rattle.hub.specs.Line.{lineStep, overlongStep, bytesOf}
 use Rattle.hub.specs.Calls.{readingStep, closedStep, carriersOf}
 use Rattle.hub.specs.Wait.{waitedStep}
 use Rattle.history.specs.Calls.{Call, line, overlong, reading, closing, waiting}
-use Rattle.history.specs.Answers.{answerTo, completionsOf, carriers}
+use Rattle.history.specs.Answers.{answerTo, returned, carriers}
 
 -- what one call gives: its answer or refusal, the bytes of its reply, the completions, and each connector's carrier after it
 pub record Said : Type 0 where
@@ -30,7 +29,7 @@ saidOf a completions carriers = record { answer = a; bytes = bytesOf a; completi
 
 abbrev pub replay : List Call → List Call → List Said
 replay h [] = []
-replay h (call ∷ l) = saidOf (answerTo h call) (completionsOf h call) (carriers (call ∷ h)) ∷ replay (call ∷ h) l
+replay h (call ∷ l) = saidOf (answerTo h call) (returned h call) (carriers (call ∷ h)) ∷ replay (call ∷ h) l
 
 -- ---- by the hub: a record, its store, and what each call makes of them
 

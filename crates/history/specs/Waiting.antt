@@ -6,7 +6,7 @@ use Rattle.pace.specs.Pace.{micros}
 use Rattle.connector.specs.declared.Completion.{Completion}
 use Rattle.hub.specs.declared.Hub.{Hub}
 use Rattle.history.specs.Calls.{Call, waiting}
-use Rattle.history.specs.Replay.{Said, Outcome, called, run}
+use Rattle.history.specs.Replay.{Outcome, called, run}
 
 -- a moment counted from earlier
 abbrev pub movedBy : ℕ → Completion → Completion

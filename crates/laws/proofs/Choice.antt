@@ -1,10 +1,8 @@
 -- Laws of choice by a Bool.
-use Prim.Native.Nat.{ℕ, _≤_}
-use mathlib.Core.Path.{_≡_, refl, sym, _∙_}
-use mathlib.Core.Bool.{Bool, true, false, cond, not, _&&_, _||_}
+use Prim.Native.Nat.{ℕ}
+use mathlib.Core.Path.{_≡_, refl}
+use mathlib.Core.Bool.{Bool, true, false, cond, _&&_}
 use native.Mathlib.Omega.{arith}
-use lib.Dec.{leb}
-use borrow.Author.Tests.{leb-true}
 
 -- what holds of both answers, each where its test says so, holds of the choice
 pub cond-case : {A : Type 0} (P : A → Type 0) (t : Bool) (a b : A) → (t ≡ true → P a) → (t ≡ false → P b) → P (cond t a b)
@@ -34,10 +32,6 @@ and-right false b e = not-both e refl
 
 pub and-true : (a b : Bool) → a ≡ true → b ≡ true → a && b ≡ true
 and-true a b e f = rw (e, f)
-
-pub and-false : (a b : Bool) → b ≡ false → a && b ≡ false
-and-false true b e = e
-and-false false b e = refl
 
 -- a function of a choice is the choice of its values
 pub cond-map : {A B : Type 0} (f : A → B) (t : Bool) (a b : A) → f (cond t a b) ≡ cond t (f a) (f b)

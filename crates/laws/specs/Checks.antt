@@ -1,6 +1,6 @@
 -- An order of checks, as document 01 writes one: a list of tests, each with its answer, of which the first that holds
 -- is taken, and the answer where none does.
-use mathlib.Core.Bool.{Bool, true, false, cond}
+use mathlib.Core.Bool.{Bool, cond}
 use mathlib.Core.List.{List, [], _∷_}
 
 pub record Check (A : Type 0) : Type 0 where

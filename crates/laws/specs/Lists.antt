@@ -1,6 +1,6 @@
 -- Parts of lists that the library does not name.
 use Prim.Native.Nat.{ℕ}
-use mathlib.Core.Bool.{Bool, true, false, cond, _&&_}
+use mathlib.Core.Bool.{Bool, true, cond, _&&_}
 use mathlib.Core.List.{List, [], _∷_}
 
 -- what a list begins with, as long as a test holds

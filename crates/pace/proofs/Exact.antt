@@ -2,14 +2,14 @@
 use Prim.Native.Nat.{ℕ, suc, _+_, _-_, _*_, _≤_, _<_}
 use mathlib.Core.Path.{_≡_, ap, _∙_}
 use mathlib.Core.Logic.{_⊎_, inl, inr}
-use native.Mathlib.Nat.{add-mul, suc-mul, mul-assoc, div-lt-iff-lt-mul, le-div-iff-mul-le, lt-div-mul-add, mul-add-div-right, mul-div-cancel, mod-lt}
+use native.Mathlib.Nat.{add-mul, suc-mul, mul-assoc, div-lt-iff-lt-mul, le-div-iff-mul-le, lt-div-mul-add, mul-add-div-right, mul-div-cancel}
 use native.Mathlib.Omega.{arith}
 use borrow.Author.Tests.{le-leb, lt-leb, ltb-true, ltb-false}
 use lib.Dec.{ltb}
-use Rattle.laws.proofs.Choice.{by-test, cond-case}
+use Rattle.laws.proofs.Choice.{by-test}
 use Rattle.pace.specs.declared.Pace.{Pace}
 use Rattle.pace.specs.declared.Passed.the-variants.{Complete}
-use Rattle.pace.specs.Pace.{SoundPace, inTicks, micros, endOf, begun, placeOf, movedTo, firstMicro, passed}
+use Rattle.pace.specs.Pace.{SoundPace, inTicks, micros, endOf, begun, movedTo, firstMicro, passed}
 use Rattle.pace.proofs.Bounds.{begun-first, finished-within, unfinished-below}
 
 -- ---- the moment of completion
@@ -91,12 +91,3 @@ unfolding begun
 begun-boundary {p} s n h =
     let e : p .at .0 - inTicks (p .lead .0) ≡ n * inTicks (p .tail .0) = omega (arith, mul-assoc n (p .tail .0) 1000000) in
     rw e (ap suc (mul-div-cancel n {n = inTicks (p .tail .0)} (omega (arith, s .tail-low))))
-
--- ---- the place in the pairs
--- it lies within them
-pub place-below : {p : Pace} → SoundPace p → placeOf p < inTicks (p .lead .0 + p .tail .0)
-unfolding placeOf
-place-below {p} s =
-    let h = mod-lt (p .at .0 - inTicks (p .lead .0)) {m = inTicks (p .tail .0)} (omega (arith, s .tail-low)) in
-    cond-case (λ n. n < inTicks (p .lead .0 + p .tail .0)) (ltb (p .at .0) (inTicks (p .lead .0))) _ _
-    (λ t. omega (arith, ltb-true, s .tail-low)) (λ t. omega arith)

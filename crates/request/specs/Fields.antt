@@ -2,7 +2,7 @@
 -- 1 to 383." 004, 005, 006, 007: "id, freq, repeat, offset missing, not a number or out of range".
 use Prim.Native.Nat.{ℕ, _%_}
 use mathlib.Core.List.{List}
-use mathlib.Core.Bool.{Bool, cond}
+use mathlib.Core.Bool.{cond}
 use lib.Dec.{ltb, eqb}
 use Rattle.text.specs.Field.{afterComma, fieldWithin}
 use Rattle.text.specs.declared.field.Field.{Field}

@@ -2,7 +2,7 @@
 -- connector other than 3".
 use Prim.Native.Nat.{ℕ, _+_}
 use mathlib.Core.List.{List, [], _∷_}
-use mathlib.Core.Bool.{Bool, true, false}
+use mathlib.Core.Bool.{Bool, true}
 use lib.ListN.{length, drop}
 use lib.Dec.{eqb}
 use Rattle.laws.specs.Bytes.{bytes}

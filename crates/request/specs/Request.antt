@@ -3,7 +3,7 @@
 -- setstate 023, 017; stopir 017; getstate 017; get_IR 017. getdevices and getversion know only 017."
 use Prim.Native.Nat.{ℕ}
 use mathlib.Core.List.{List, [], _∷_}
-use mathlib.Core.Bool.{Bool, true, false, cond, not}
+use mathlib.Core.Bool.{Bool, false, cond, not}
 use lib.ListN.{length}
 use lib.Dec.{ltb, leb, eqb}
 use Rattle.laws.specs.Checks.{_⇒_, first}

@@ -1,17 +1,16 @@
 -- Laws of numbers: the loop that reads one.
-use Prim.Native.Nat.{ℕ, zero, suc, _+_, _-_, _*_, _^_, _≤_, _<_}
+use Prim.Native.Nat.{ℕ, suc, _+_, _-_, _*_, _^_, _≤_, _<_}
 use mathlib.Core.Path.{_≡_, refl, sym, ap, _∙_}
 use mathlib.Core.List.{List, [], _∷_}
 use mathlib.Core.Bool.{Bool, true, false, cond}
 use native.Mathlib.Nat.{pow-succ', pow-le-pow-right}
 use native.Mathlib.Numerals.{add-one}
 use native.Mathlib.Omega.{arith}
-use borrow.Author.Tests.{ltb-false, leb-true, leb-false, le-leb, lt-leb, lt-ltb, le-ltb, eq-eqb, ne-eqb}
-use lib.Dec.{ltb, leb, eqb}
+use borrow.Author.Tests.{ltb-false, leb-true, leb-false, le-leb, lt-ltb, le-ltb}
+use lib.Dec.{ltb, leb}
 use lib.ListN.{length, drop, getD}
-use Rattle.laws.proofs.Choice.{by-test, not-both, cond-case}
+use Rattle.laws.proofs.Choice.{by-test, not-both}
 use Rattle.laws.proofs.Lists.{leading-more}
-use Rattle.text.specs.declared.number.Number.the-variants.{Missing, Value}
 use Rattle.text.specs.Number.{isDigit, run, worth, number, numberOf, numberAt, grown, foundNumber}
 
 pub digit-range : (b : ℕ) → isDigit b ≡ true → (48 ≤ b) × (b ≤ 57)

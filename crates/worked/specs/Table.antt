@@ -7,7 +7,6 @@ use mathlib.Core.List.{List, [], _∷_, map}
 use Rattle.laws.specs.Bytes.{bytes}
 use Rattle.code.specs.declared.limits.Smallest.the-variants.{Count}
 use Rattle.code.specs.Limits.{SmallestCount}
-use Rattle.code.specs.Letters.{pair}
 use Rattle.code.specs.Read.{Reading, pairs, fault, readCode}
 use Rattle.writer.specs.declared.Form.the-variants.{Lettered}
 use Rattle.writer.specs.CodeText.{codeText}

@@ -13,7 +13,7 @@ use Rattle.writer.specs.declared.Form.{Form}
 use Rattle.writer.specs.declared.sendir.Command.{Command}
 use Rattle.writer.specs.declared.sendir.Written.the-variants.{Refused, Line}
 use Rattle.writer.specs.Given.{addressWithin, fieldsWithin, countsGiven}
-use Rattle.writer.specs.Sendir.{Outcome, refused, line, outcome, answerOf, bytesOf, sendirLine, Wrote}
+use Rattle.writer.specs.Sendir.{refused, outcome, sendirLine, Wrote}
 
 module _ {before : List ℕ} {form : Form} {c : Command} {counts : List ℕ} where
   nothing : {number : ℕ} → outcome (length before) form c counts ≡ refused number → Wrote before form c counts before (Refused number)

@@ -15,7 +15,7 @@ use Rattle.hub.specs.declared.Written.{Written}
 use Rattle.hub.specs.declared.Written.the-variants.{Refused, Line}
 use Rattle.hub.specs.Record.{freshHub}
 use Rattle.hub.specs.Line.{bytesOf, answeredOf, Writes, Answers, lineStep, overlongStep}
-use Rattle.hub.specs.Calls.{decidedRefusal, readingStep, closedStep, carriersOf, completionText, CompletionWritten}
+use Rattle.hub.specs.Calls.{readingStep, closedStep, carriersOf, completionText, CompletionWritten}
 use Rattle.hub.specs.Wait.{waitedStep}
 use Rattle.allowed.specs.Allowed.{One}
 use Rattle.allowed.proofs.Law.{one, one-and}
@@ -40,10 +40,6 @@ hub-line hub store connection text before a b p q =
 pub hub-overlong-line : (hub : Hub) (connection : ℕ) (before : List ℕ)
     → One (λ (o : Answered × List ℕ). Writes (overlongStep hub connection (length before)) before (o .0) (o .1))
 hub-overlong-line hub connection before = writes (overlongStep hub connection (length before)) before
-
--- hub::calls::refused
-pub hub-refused : (hub : Hub) (number : ℕ) → One (λ (r : Decided). r ≡ decidedRefusal hub number)
-hub-refused hub number = one (decidedRefusal hub number)
 
 -- hub::calls::reading
 pub hub-reading : (hub : Hub) (port value : ℕ) → One (λ (r : Decided). r ≡ readingStep hub port value)

@@ -3,20 +3,12 @@ use crate::Answer;
 use crate::Decided;
 use crate::Hub;
 use crate::Written;
+use crate::unchanged::refused;
 use connector::Completion;
 use reply::Reply;
 ghost use mathlib.Core.Path.{_≡_};
 ghost use Rattle.hub.specs.Record.{SoundHub};
-ghost use Rattle.hub.specs.Calls.{decidedRefusal, readingStep, closedStep, carriersOf, CompletionWritten};
-
-pub fn refused(hub: Hub, number: u64) -> Decided
-    ensures { λ r. ⌜ r ≡ decidedRefusal hub number ⌝ }
-{
-    Decided {
-        answer: Answer::Refused(number),
-        hub,
-    }
-}
+ghost use Rattle.hub.specs.Calls.{readingStep, closedStep, carriersOf, CompletionWritten};
 
 // A contact reading.
 pub fn reading(hub: Hub, port: u64, value: u64) -> Decided

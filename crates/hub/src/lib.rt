@@ -67,4 +67,5 @@ pub mod calls;
 pub mod line;
 mod send;
 mod slots;
+mod unchanged;
 pub mod wait;

@@ -3,7 +3,7 @@ use crate::Answer;
 use crate::Answered;
 use crate::Decided;
 use crate::Hub;
-use crate::send::error;
+use crate::unchanged::error;
 use connector::Contact;
 use connector::Owner;
 use reply::Reply;

@@ -2,6 +2,7 @@
 use crate::Answer;
 use crate::Decided;
 use crate::Hub;
+use crate::unchanged::error;
 use code::Code;
 use code::CodeRead;
 use code::Pair;
@@ -15,16 +16,7 @@ ghost use Prim.Native.Nat.{_*_, _≤_, _<_};
 ghost use lib.ListN.{take};
 ghost use Rattle.request.specs.Accepted.{PortWithin, FieldsWithin, SentWithin};
 ghost use Rattle.hub.specs.Record.{SoundHub};
-ghost use Rattle.hub.specs.Send.{Decides, error, sentStep, codeStep, sendStep};
-
-pub fn error(hub: Hub, number: u64, m: u64, port: u64) -> Decided
-    ensures { λ r. ⌜ r ≡ error hub number m port ⌝ }
-{
-    Decided {
-        answer: Answer::Reply(Reply::Error(number, m, port), Owner::Nobody),
-        hub,
-    }
-}
+ghost use Rattle.hub.specs.Send.{Decides, sentStep, codeStep, sendStep};
 
 // Pairs within the limits, to a connector that may transmit.
 fn send(

@@ -15,7 +15,7 @@ pub fn wait(hub: Hub, n: u64) -> Waited
     ensures { λ r. ⌜ r ≡ waitedStep hub n ⌝ }
 {
     if Hub::MOST_WAIT < n {
-        let decided = crate::calls::refused(hub, 103);
+        let decided = crate::unchanged::refused(hub, 103);
         return Waited {
             decided,
             completions: Completions::none(),

@@ -6,14 +6,16 @@ use mathlib.Core.List.{List}
 use lib.ListN.{getD, drop, length}
 use Rattle.text.specs.declared.field.Field.{Field}
 use Rattle.text.specs.declared.number.Number.{Number}
-use Rattle.text.specs.Number.{isDigit, numberAt}
+use Rattle.words.specs.Digits.{isDigit}
+use Rattle.text.specs.Number.{numberAt}
 use Rattle.text.specs.Field.{endsField, afterComma, fieldIs, fieldWithin}
-use Rattle.code.specs.declared.Pair.{Pair}
+use Rattle.words.specs.declared.Pair.{Pair}
 use Rattle.code.specs.declared.Code.{Code}
 use Rattle.code.specs.declared.letters.Letters.{Letters}
 use Rattle.code.specs.declared.next.Next.{Next}
 use Rattle.code.specs.declared.next.After.{After}
-use Rattle.code.specs.Letters.{noLetters, samePair, placeOf, held, Learns, learntLetters}
+use Rattle.words.specs.Pairs.{samePair}
+use Rattle.code.specs.Letters.{noLetters, placeOf, held, Learns, learntLetters}
 use Rattle.code.specs.Limits.{legal, SmallestCount}
 use Rattle.code.specs.Next.{isLetter, nextPair}
 use Rattle.code.specs.Read.{readCode, codeOf}

@@ -5,8 +5,8 @@ use mathlib.Core.Bool.{Bool, true}
 use mathlib.Core.List.{List, []}
 use lib.ListN.{take, drop}
 use lib.Seq.{sets}
-use Rattle.code.specs.declared.Pair.{Pair}
-use Rattle.request.specs.declared.fields.Fields.{Fields}
+use Rattle.words.specs.declared.Pair.{Pair}
+use Rattle.words.specs.declared.Fields.{Fields}
 use Rattle.request.specs.declared.mode.Mode.{Mode}
 use Rattle.pace.specs.declared.Periods.{Periods}
 use Rattle.pace.specs.declared.Micros.{Micros}
@@ -14,7 +14,8 @@ use Rattle.pace.specs.declared.Ticks.{Ticks}
 use Rattle.pace.specs.declared.Pace.{Pace}
 use Rattle.pace.specs.declared.Passed.{Passed}
 use Rattle.pace.specs.Pace as pace
-use Rattle.store.specs.Store.{countsOf, slotCounts, alike, onAt}
+use Rattle.meaning.specs.Time.{countsOf, onAt}
+use Rattle.store.specs.Store.{slotCounts, alike}
 use Rattle.connector.specs.declared.Owner.{Owner}
 use Rattle.connector.specs.declared.Run.{Run}
 use Rattle.connector.specs.declared.Sending.{Sending}

@@ -6,11 +6,11 @@ use mathlib.Core.List.{List}
 use lib.ListN.{length, take}
 use lib.Seq.{sets}
 use Rattle.laws.specs.Put.{Put}
-use Rattle.text.specs.Decimal.{decimal}
-use Rattle.code.specs.declared.Pair.{Pair}
+use Rattle.words.specs.Decimal.{decimal}
+use Rattle.words.specs.declared.Pair.{Pair}
 use Rattle.code.specs.declared.Code.{Code}
 use Rattle.code.specs.Read.{codeOf}
-use Rattle.request.specs.declared.fields.Fields.{Fields}
+use Rattle.words.specs.declared.Fields.{Fields}
 use Rattle.writer.specs.declared.Form.{Form}
 use Rattle.writer.specs.declared.sendir.Command.{Command}
 use Rattle.writer.specs.declared.sendir.Written.{Written}

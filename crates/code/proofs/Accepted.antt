@@ -9,13 +9,14 @@ use lib.ListN.{length, getD, length-append}
 use Rattle.laws.specs.Lists.{all}
 use Rattle.laws.proofs.Choice.{and-true, cond-case}
 use Rattle.laws.proofs.Lists.{all-append, all-at}
-use Rattle.code.specs.declared.Pair.{Pair}
+use Rattle.words.specs.declared.Pair.{Pair}
 use Rattle.code.specs.declared.next.Next.{Next}
 use Rattle.code.specs.declared.next.Next.the-variants.{End, Spelled, Letter, Fault}
 use Rattle.code.specs.declared.next.After.{After}
 use Rattle.code.specs.declared.next.After.the-variants.{Nothing, Spelling, Lettering}
 use Rattle.code.specs.Limits.{legalPair}
-use Rattle.code.specs.Letters.{pair, has, learnt}
+use Rattle.words.specs.Pairs.{pair}
+use Rattle.code.specs.Letters.{has, learnt}
 use Rattle.code.specs.Accepted.{Accepted}
 use Rattle.code.specs.Next.{nextPair}
 use Rattle.code.specs.Read.{Reading, pairs, fault, onward, readFrom, readCode}

@@ -5,10 +5,10 @@ use mathlib.Core.List.{List}
 use native.Mathlib.Omega.{arith}
 use lib.ListN.{length, take, drop, set, replicate, length-set, take-append-drop}
 use lib.Seq.{length-take-le, drop-set-lt, drop-drop, take-at}
-use Rattle.code.specs.declared.Pair.{Pair}
+use Rattle.words.specs.declared.Pair.{Pair}
 use Rattle.code.specs.declared.Code.{Code}
 use Rattle.code.specs.declared.CodeRead.the-variants.{Fault, Pairs}
-use Rattle.code.specs.Letters.{pair}
+use Rattle.words.specs.Pairs.{pair}
 use Rattle.code.specs.Read.{Reading, pairs, fault, codeOf}
 
 pub record Filled (ps : List Pair) (n : ℕ) : Type 0 where

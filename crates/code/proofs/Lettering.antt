@@ -11,9 +11,10 @@ use lib.ListN.{length, take, drop, getD, set, length-set, length-append}
 use lib.Seq.{length-take-le, take-suc-set}
 use Rattle.laws.proofs.Choice.{by-test, not-both, cond-case}
 use Rattle.laws.proofs.Lists.{drop-take-next, drop-take-end}
-use Rattle.code.specs.declared.Pair.{Pair}
+use Rattle.words.specs.declared.Pair.{Pair}
 use Rattle.code.specs.declared.letters.Letters.{Letters}
-use Rattle.code.specs.Letters.{pair, samePair, placeOf, has, learnt, held, Kept}
+use Rattle.words.specs.Pairs.{pair, samePair}
+use Rattle.code.specs.Letters.{placeOf, has, learnt, held, Kept}
 
 -- the search for p among the first n, from place j on: what is left gives the same place
 abbrev pub Seeking : Pair → List Pair → ℕ → ℕ → Type 0

@@ -7,7 +7,8 @@ use lib.Dec.{ltb, leb, eqb}
 use lib.ListN.{length, getD}
 use borrow.Author.Tests.{ltb-true, ltb-false, leb-false}
 use Rattle.laws.proofs.Choice.{cond-case, by-test, not-both}
-use Rattle.text.specs.Number.{isDigit, numberAt}
+use Rattle.words.specs.Digits.{isDigit}
+use Rattle.text.specs.Number.{numberAt}
 use Rattle.text.specs.declared.number.Number.{Number}
 use Rattle.text.specs.declared.number.Number.the-variants.{Missing, Value}
 use Rattle.code.specs.declared.next.Count.{Count}

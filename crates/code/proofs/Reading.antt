@@ -6,14 +6,15 @@ use native.Mathlib.Numerals.{add-one}
 use native.Mathlib.Omega.{arith}
 use lib.ListN.{length, take, getD, set, replicate}
 use lib.Seq.{getD-take, take-suc-set}
-use Rattle.code.specs.declared.Pair.{Pair}
+use Rattle.words.specs.declared.Pair.{Pair}
 use Rattle.code.specs.declared.CodeRead.the-variants.{Pairs}
 use Rattle.code.specs.declared.letters.Letters.{Letters}
 use Rattle.code.specs.declared.next.Next.{Next}
 use Rattle.code.specs.declared.next.Next.the-variants.{End, Spelled, Letter, Fault}
 use Rattle.code.specs.declared.next.After.{After}
 use Rattle.code.specs.declared.next.After.the-variants.{Nothing, Spelling, Lettering}
-use Rattle.code.specs.Letters.{pair, noLetters, learnt, held, Kept}
+use Rattle.words.specs.Pairs.{pair}
+use Rattle.code.specs.Letters.{noLetters, learnt, held, Kept}
 use Rattle.code.specs.Next.{nextPair}
 use Rattle.code.specs.Read.{pairs, fault, onward, readFrom, readCode, codeOf}
 use Rattle.code.proofs.Filled.{Filled, filled-none, filled-taken, filled-more, filled-code}

@@ -5,15 +5,9 @@ use mathlib.Core.Bool.{Bool, false, cond}
 use mathlib.Core.List.{List, [], _∷_, _++_}
 use lib.ListN.{length, take, set, replicate}
 use lib.Dec.{ltb, eqb}
-use Rattle.code.specs.declared.Pair.{Pair}
+use Rattle.words.specs.declared.Pair.{Pair}
+use Rattle.words.specs.Pairs.{pair, samePair}
 use Rattle.code.specs.declared.letters.Letters.{Letters}
-
-abbrev pub pair : ℕ → ℕ → Pair
-pair a b = record { on = a; off = b }
-
--- pairs are compared as numbers
-unfoldable pub samePair : Pair → Pair → Bool
-samePair p q = cond (eqb (p .on) (q .on)) (eqb (p .off) (q .off)) false
 
 -- the place where a pair first stands in a list, the list's length where it does not
 abbrev pub placeOf : Pair → List Pair → ℕ

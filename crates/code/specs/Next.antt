@@ -6,7 +6,8 @@ use mathlib.Core.Bool.{Bool, false, cond}
 use lib.ListN.{length, getD}
 use lib.Dec.{ltb, leb, eqb}
 use Rattle.laws.specs.Checks.{_⇒_, first}
-use Rattle.text.specs.Number.{isDigit, numberAt}
+use Rattle.words.specs.Digits.{isDigit}
+use Rattle.text.specs.Number.{numberAt}
 use Rattle.text.specs.declared.number.Number.{Number}
 use Rattle.text.specs.declared.number.Number.the-variants.{Missing, Value}
 use Rattle.code.specs.declared.next.Count.{Count}

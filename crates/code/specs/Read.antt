@@ -2,14 +2,15 @@
 use Prim.Native.Nat.{ℕ, zero, suc, _-_}
 use mathlib.Core.List.{List, [], _∷_, _++_}
 use lib.ListN.{length, getD, replicate}
-use Rattle.code.specs.declared.Pair.{Pair}
+use Rattle.words.specs.declared.Pair.{Pair}
 use Rattle.code.specs.declared.Code.{Code}
 use Rattle.code.specs.declared.CodeRead.the-variants.{Fault, Pairs}
 use Rattle.code.specs.declared.next.Next.{Next}
 use Rattle.code.specs.declared.next.Next.the-variants as next
 use Rattle.code.specs.declared.next.After.{After}
 use Rattle.code.specs.declared.next.After.the-variants.{Nothing, Spelling, Lettering}
-use Rattle.code.specs.Letters.{pair, learnt}
+use Rattle.words.specs.Pairs.{pair}
+use Rattle.code.specs.Letters.{learnt}
 use Rattle.code.specs.Next.{nextPair}
 
 pub data Reading : Type 0 where

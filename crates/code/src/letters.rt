@@ -1,10 +1,11 @@
 // The pairs that have a letter.
 use crate::Code;
-use crate::Pair;
+use words::Pair;
 ghost use mathlib.Core.Path.{_≡_};
 ghost use Prim.Native.Nat.{_≤_};
 ghost use lib.ListN.{length};
-ghost use Rattle.code.specs.Letters.{noLetters, samePair, placeOf, held, Learns};
+ghost use Rattle.words.specs.Pairs.{samePair};
+ghost use Rattle.code.specs.Letters.{noLetters, placeOf, held, Learns};
 
 pub struct Letters {
     pub count: usize,

@@ -1,10 +1,6 @@
 // An infrared code: pairs of on and off counts of carrier periods, read from plain or lettered text.
 
-// An on count and the off count behind it.
-pub struct Pair {
-    pub on: u16,
-    pub off: u16,
-}
+use words::Pair;
 
 // What a code's text is: so many pairs, or its first fault.
 pub enum CodeRead {

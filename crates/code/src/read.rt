@@ -1,10 +1,10 @@
 // A whole code.
 use crate::Code;
 use crate::CodeRead;
-use crate::Pair;
 use crate::letters::Letters;
 use crate::next::After;
 use crate::next::Next;
+use words::Pair;
 ghost use mathlib.Core.Path.{_≡_};
 ghost use Rattle.code.specs.Read.{readCode, codeOf, fault};
 

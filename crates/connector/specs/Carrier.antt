@@ -3,7 +3,8 @@ use Prim.Native.Nat.{ℕ}
 use mathlib.Core.Bool.{Bool, true, false}
 use mathlib.Core.List.{List}
 use Rattle.pace.specs.Pace.{placeOf}
-use Rattle.store.specs.Store.{slotCounts, onAt}
+use Rattle.meaning.specs.Time.{onAt}
+use Rattle.store.specs.Store.{slotCounts}
 use Rattle.connector.specs.declared.Sending.{Sending}
 use Rattle.connector.specs.declared.Sending.the-variants.{Idle, Running}
 

@@ -5,11 +5,12 @@ use mathlib.Core.List.{List, [], _∷_}
 use lib.Dec.{eqb}
 use lib.ListN.{length, take, drop}
 use Rattle.laws.specs.Checks.{_⇒_, first}
-use Rattle.code.specs.declared.Pair.{Pair}
+use Rattle.words.specs.declared.Pair.{Pair}
 use Rattle.pace.specs.Pace.{periods, periodsOf}
 use Rattle.pace.specs.Pace as pace
-use Rattle.store.specs.Store.{countsOf, slotCounts, alike}
-use Rattle.request.specs.declared.fields.Fields.{Fields}
+use Rattle.meaning.specs.Time.{countsOf}
+use Rattle.store.specs.Store.{slotCounts, alike}
+use Rattle.words.specs.declared.Fields.{Fields}
 use Rattle.request.specs.declared.mode.Mode.{Mode}
 use Rattle.request.specs.declared.mode.Mode.the-variants.{Ir, Sensor, IrBlaster}
 use Rattle.connector.specs.declared.Owner.{Owner}

@@ -1,8 +1,8 @@
 // One connector: its record and what becomes of it. The pairs of what it sends stand in a lent array.
 use pace::Micros;
 use pace::Pace;
-use request::fields::Fields;
 use request::mode::Mode;
+use words::Fields;
 ghost use mathlib.Core.Path.{_≡_};
 ghost use Rattle.connector.specs.Record.{freshConnector};
 

@@ -10,21 +10,20 @@ use lib.ListN.{length}
 use lib.Seq.{sets, length-sets}
 use borrow.Author.Tests.{ltb-true}
 use Rattle.laws.proofs.Choice.{by-test, cond-case}
-use Rattle.code.specs.declared.Pair.{Pair}
+use Rattle.words.specs.declared.Pair.{Pair}
 use Rattle.code.specs.Limits.{offsetWithin}
 use Rattle.code.specs.Read.{Reading, pairs, fault, readCode}
 use Rattle.code.proofs.Accepted.{accepted}
 use Rattle.request.specs.declared.mode.Mode.{Mode}
-use Rattle.request.specs.declared.fields.Fields.{Fields}
+use Rattle.words.specs.declared.Fields.{Fields}
 use Rattle.request.specs.declared.fields.Sent.{Sent}
 use Rattle.request.specs.declared.fields.Sent.the-variants as sent
 use Rattle.request.specs.declared.Request.{Request}
 use Rattle.request.specs.declared.Request.the-variants as request
 use Rattle.request.specs.Accepted.{PortWithin, FieldsWithin, SentWithin, Within}
 use Rattle.reply.specs.declared.Reply.the-variants as reply
-use Rattle.store.specs.Store.{countsOf}
+use Rattle.meaning.specs.Time.{countsOf, Transmission, started, renewed}
 use Rattle.store.proofs.Kept.{kept, others-kept}
-use Rattle.waveform.specs.Waveform.{Transmission, started, renewed}
 use Rattle.waveform.proofs.Paced.{Fit, started-runs, renewed-runs}
 use Rattle.connector.specs.declared.Owner.the-variants.{Nobody, Connection}
 use Rattle.connector.specs.declared.Contact.{Contact}

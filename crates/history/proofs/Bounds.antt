@@ -14,7 +14,7 @@ use Rattle.request.specs.declared.Request.the-variants as request
 use Rattle.request.specs.Accepted.{PortWithin, Within}
 use Rattle.request.specs.Request.{readRequest}
 use Rattle.request.proofs.Accepted.{within}
-use Rattle.waveform.specs.Waveform.{Transmission, complete, begun, renewed}
+use Rattle.meaning.specs.Time.{Transmission, complete, begun, renewed}
 use Rattle.waveform.proofs.Meaning.{pace-sound}
 use Rattle.connector.specs.declared.Contact.{Contact}
 use Rattle.connector.specs.declared.Contact.the-variants.{Unread, Read}

@@ -5,11 +5,10 @@ use mathlib.Core.List.{List}
 use lib.Dec.{eqb}
 use borrow.Author.Tests.{eq-eqb, eqb-true}
 use Rattle.laws.proofs.Choice.{guard, not-both, and-left, and-right, and-true}
-use Rattle.code.specs.declared.Pair.{Pair}
-use Rattle.request.specs.declared.fields.Fields.{Fields}
-use Rattle.store.specs.Store.{countsOf}
+use Rattle.words.specs.declared.Pair.{Pair}
+use Rattle.words.specs.declared.Fields.{Fields}
+use Rattle.meaning.specs.Time.{countsOf, Transmission}
 use Rattle.store.proofs.Kept.{alike-refl, alike-same, counts-same}
-use Rattle.waveform.specs.Waveform.{Transmission}
 use Rattle.connector.specs.Change.{sameFields}
 use Rattle.history.specs.Known.{sameCommand}
 

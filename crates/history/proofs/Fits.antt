@@ -9,12 +9,12 @@ use lib.Dec.{ltb, eqb}
 use lib.ListN.{length}
 use borrow.Author.Tests.{ltb-true}
 use Rattle.laws.proofs.Choice.{cond-case}
-use Rattle.code.specs.declared.Pair.{Pair}
+use Rattle.words.specs.declared.Pair.{Pair}
 use Rattle.code.specs.Limits.{offsetWithin}
 use Rattle.code.specs.Read.{Reading, pairs, fault, readCode}
 use Rattle.code.specs.Accepted.{Accepted}
 use Rattle.code.proofs.Accepted.{accepted}
-use Rattle.request.specs.declared.fields.Fields.{Fields}
+use Rattle.words.specs.declared.Fields.{Fields}
 use Rattle.request.specs.declared.fields.Sent.{Sent}
 use Rattle.request.specs.declared.fields.Sent.the-variants as sent
 use Rattle.request.specs.declared.Request.{Request}
@@ -22,7 +22,7 @@ use Rattle.request.specs.declared.Request.the-variants as request
 use Rattle.request.specs.Accepted.{FieldsWithin, SentWithin, Within}
 use Rattle.request.specs.Request.{readRequest}
 use Rattle.request.proofs.Accepted.{within}
-use Rattle.waveform.specs.Waveform.{Transmission}
+use Rattle.meaning.specs.Time.{Transmission}
 use Rattle.waveform.proofs.Paced.{Fit, fit-started, fit-renewed, fit-later}
 use Rattle.connector.specs.Change.{owns, sameMode}
 use Rattle.connector.specs.Send.{transmitsNot}

@@ -12,7 +12,7 @@ use Rattle.laws.proofs.Choice.{by-test, not-both}
 use Rattle.request.specs.Accepted.{PortWithin}
 use Rattle.request.specs.Request.{readRequest}
 use Rattle.request.proofs.Accepted.{within}
-use Rattle.waveform.specs.Waveform.{Transmission, complete}
+use Rattle.meaning.specs.Time.{Transmission, complete}
 use Rattle.waveform.proofs.Paced.{complete-later}
 use Rattle.connector.specs.declared.Completion.{Completion}
 use Rattle.connector.specs.declared.pass.Done.{Done}

@@ -4,8 +4,7 @@ use mathlib.Core.Path.{_≡_, subst}
 use mathlib.Core.Bool.{true, false}
 use mathlib.Core.List.{List, _++_, Perm}
 use mathlib.Core.Option.{some}
-use Rattle.pace.specs.Pace.{inTicks}
-use Rattle.waveform.specs.Waveform.{Transmission, waveform, lasts, done, complete, finish, begun}
+use Rattle.meaning.specs.Time.{inTicks, Transmission, waveform, lasts, done, complete, finish, begun}
 use Rattle.waveform.proofs.Paced.{Fit}
 use Rattle.waveform.proofs.Meaning.{finish-first, begun-copies, begun-boundary}
 use Rattle.connector.specs.declared.Completion.{Completion}

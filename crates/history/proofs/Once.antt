@@ -9,7 +9,7 @@ use lib.Dec.{ltb, leb}
 use borrow.Author.Tests.{le-leb, lt-leb, leb-true, leb-false}
 use Rattle.laws.proofs.Choice.{by-test, not-both}
 use Rattle.pace.specs.Pace.{micros}
-use Rattle.waveform.specs.Waveform.{Transmission, complete, finish}
+use Rattle.meaning.specs.Time.{Transmission, complete, finish}
 use Rattle.waveform.proofs.Paced.{Fit, fit-later, complete-later}
 use Rattle.waveform.proofs.Meaning.{finish-tells}
 use Rattle.connector.specs.declared.Owner.{Owner}

@@ -14,7 +14,7 @@ use Rattle.request.specs.declared.Request.{Request}
 use Rattle.request.specs.declared.Request.the-variants as request
 use Rattle.request.specs.Accepted.{PortWithin}
 use Rattle.request.specs.Request.{readRequest}
-use Rattle.waveform.specs.Waveform.{Transmission}
+use Rattle.meaning.specs.Time.{Transmission}
 use Rattle.connector.specs.declared.Contact.the-variants.{Unread, Read}
 use Rattle.connector.specs.Change.{owns, sameMode}
 use Rattle.connector.specs.Send.{transmitsNot}

@@ -8,16 +8,16 @@ use lib.Dec.{eqb}
 use lib.ListN.{length}
 use borrow.Author.Tests.{eq-eqb, eqb-true}
 use Rattle.laws.proofs.Choice.{by-test, not-both, cond-map}
-use Rattle.code.specs.declared.Pair.{Pair}
+use Rattle.words.specs.declared.Pair.{Pair}
 use Rattle.code.specs.Accepted.{Accepted}
-use Rattle.request.specs.declared.fields.Fields.{Fields}
+use Rattle.words.specs.declared.Fields.{Fields}
 use Rattle.request.specs.declared.mode.Mode.{Mode}
 use Rattle.request.specs.Accepted.{FieldsWithin}
 use Rattle.pace.specs.declared.Passed.the-variants as passed
 use Rattle.pace.specs.Pace.{micros}
-use Rattle.store.specs.Store.{countsOf, slotCounts, alike}
+use Rattle.meaning.specs.Time.{countsOf, Transmission, complete, finish, started, renewed}
+use Rattle.store.specs.Store.{slotCounts, alike}
 use Rattle.store.proofs.Kept.{alike-same, counts-same}
-use Rattle.waveform.specs.Waveform.{Transmission, complete, finish, started, renewed}
 use Rattle.waveform.proofs.Paced.{Fit, paceAt, pace-started, pace-renewed, started-runs, renewed-runs, complete-later, passed-is}
 use Rattle.waveform.proofs.Carried.{carrier-paced}
 use Rattle.connector.specs.declared.Owner.the-variants.{Nobody, Connection}

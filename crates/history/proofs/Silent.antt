@@ -9,7 +9,7 @@ use Rattle.laws.proofs.Choice.{cond-case, not-both}
 use Rattle.request.specs.declared.Request.{Request}
 use Rattle.request.specs.declared.Request.the-variants as request
 use Rattle.request.specs.Request.{readRequest}
-use Rattle.waveform.specs.Waveform.{Transmission, complete}
+use Rattle.meaning.specs.Time.{Transmission, complete}
 use Rattle.waveform.proofs.Paced.{complete-later}
 use Rattle.connector.specs.Change.{sameMode}
 use Rattle.connector.specs.Send.{transmitsNot}

@@ -10,7 +10,7 @@ use Rattle.request.specs.declared.Request.{Request}
 use Rattle.request.specs.declared.Request.the-variants as request
 use Rattle.request.specs.Request.{readRequest}
 use Rattle.reply.specs.declared.Reply.the-variants as reply
-use Rattle.waveform.specs.Waveform.{Transmission}
+use Rattle.meaning.specs.Time.{Transmission}
 use Rattle.connector.specs.declared.Owner.{Owner}
 use Rattle.connector.specs.declared.Contact.{Contact}
 use Rattle.connector.specs.declared.Contact.the-variants.{Unread, Read}

@@ -9,7 +9,7 @@ use native.Mathlib.Nat.{add-assoc}
 use lib.Dec.{ltb}
 use borrow.Author.Tests.{ltb-true, ltb-false, lt-ltb, le-ltb}
 use Rattle.laws.proofs.Choice.{by-test, not-both, cond-case}
-use Rattle.waveform.specs.Waveform.{Transmission, complete, finish}
+use Rattle.meaning.specs.Time.{Transmission, complete, finish}
 use Rattle.waveform.proofs.Paced.{fit-later, complete-later}
 use Rattle.waveform.proofs.Meaning.{finish-tells, finish-first}
 use Rattle.connector.specs.declared.Completion.{Completion}

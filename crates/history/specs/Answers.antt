@@ -8,11 +8,11 @@ use Rattle.laws.specs.Checks.{_⇒_, first}
 use Rattle.pace.specs.Pace.{micros}
 use Rattle.request.specs.declared.Request.{Request}
 use Rattle.request.specs.declared.Request.the-variants as request
-use Rattle.request.specs.declared.fields.Fields.{Fields}
+use Rattle.words.specs.declared.Fields.{Fields}
 use Rattle.request.specs.Request.{readRequest}
 use Rattle.reply.specs.declared.Reply.{Reply}
 use Rattle.reply.specs.declared.Reply.the-variants as reply
-use Rattle.waveform.specs.Waveform.{Transmission, complete, finish, carrier}
+use Rattle.meaning.specs.Time.{Transmission, complete, finish, carrier}
 use Rattle.connector.specs.declared.Owner.{Owner}
 use Rattle.connector.specs.declared.Owner.the-variants.{Nobody}
 use Rattle.connector.specs.declared.Contact.{Contact}

@@ -6,19 +6,19 @@ use mathlib.Core.Option.{Option, none, some}
 use lib.Dec.{ltb, eqb}
 use lib.ListN.{length}
 use Rattle.laws.specs.Checks.{_⇒_, first}
-use Rattle.code.specs.declared.Pair.{Pair}
+use Rattle.words.specs.declared.Pair.{Pair}
 use Rattle.code.specs.Limits.{offsetWithin}
 use Rattle.code.specs.Read.{Reading, pairs, fault, readCode}
 use Rattle.request.specs.declared.mode.Mode.{Mode}
 use Rattle.request.specs.declared.mode.Mode.the-variants.{Ir}
-use Rattle.request.specs.declared.fields.Fields.{Fields}
+use Rattle.words.specs.declared.Fields.{Fields}
 use Rattle.request.specs.declared.fields.Sent.{Sent}
 use Rattle.request.specs.declared.fields.Sent.the-variants as sent
 use Rattle.request.specs.declared.Request.{Request}
 use Rattle.request.specs.declared.Request.the-variants as request
 use Rattle.request.specs.Request.{readRequest}
-use Rattle.store.specs.Store.{countsOf, alike}
-use Rattle.waveform.specs.Waveform.{Transmission, complete, started, renewed}
+use Rattle.meaning.specs.Time.{countsOf, Transmission, complete, started, renewed}
+use Rattle.store.specs.Store.{alike}
 use Rattle.connector.specs.declared.Owner.{Owner}
 use Rattle.connector.specs.declared.Owner.the-variants.{Nobody, Connection}
 use Rattle.connector.specs.declared.Contact.{Contact}

@@ -8,12 +8,12 @@ use borrow.Author.Tests.{ltb-true, ltb-false}
 use lib.Dec.{ltb}
 use lib.ListN.{length, getD, set, getD-replicate}
 use Rattle.laws.proofs.Choice.{cond-case}
-use Rattle.code.specs.declared.Pair.{Pair}
+use Rattle.words.specs.declared.Pair.{Pair}
 use Rattle.code.specs.Limits.{offsetWithin}
 use Rattle.code.specs.Read.{Reading, pairs, fault, readCode}
 use Rattle.code.proofs.Accepted.{accepted}
 use Rattle.request.specs.declared.mode.Mode.{Mode}
-use Rattle.request.specs.declared.fields.Fields.{Fields}
+use Rattle.words.specs.declared.Fields.{Fields}
 use Rattle.request.specs.declared.fields.Sent.{Sent}
 use Rattle.request.specs.declared.fields.Sent.the-variants as sent
 use Rattle.request.specs.declared.Request.{Request}

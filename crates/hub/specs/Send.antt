@@ -5,11 +5,11 @@ use mathlib.Core.Bool.{cond}
 use mathlib.Core.List.{List}
 use lib.ListN.{length}
 use lib.Seq.{sets}
-use Rattle.code.specs.declared.Pair.{Pair}
+use Rattle.words.specs.declared.Pair.{Pair}
 use Rattle.code.specs.Limits.{offsetWithin}
 use Rattle.code.specs.Read.{Reading, pairs, fault, readCode}
-use Rattle.store.specs.Store.{countsOf}
-use Rattle.request.specs.declared.fields.Fields.{Fields}
+use Rattle.meaning.specs.Time.{countsOf}
+use Rattle.words.specs.declared.Fields.{Fields}
 use Rattle.request.specs.declared.fields.Sent.{Sent}
 use Rattle.request.specs.declared.fields.Sent.the-variants as sent
 use Rattle.reply.specs.declared.Reply.the-variants.{Error, Busy}

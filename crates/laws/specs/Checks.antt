@@ -1,7 +1,10 @@
 -- An order of checks, as document 01 writes one: a list of tests, each with its answer, of which the first that holds
 -- is taken, and the answer where none does.
-use mathlib.Core.Bool.{Bool, cond}
+use Prim.Native.Nat.{ℕ}
+use mathlib.Core.Bool.{Bool, true, false, cond, _&&_}
 use mathlib.Core.List.{List, [], _∷_}
+use mathlib.Core.Option.{Option, none, some}
+use lib.Dec.{leb}
 
 pub record Check (A : Type 0) : Type 0 where
   pub test : Bool
@@ -14,3 +17,16 @@ test ⇒ answer = record { test = test; gives = answer }
 abbrev pub first : {A : Type 0} → List (Check A) → A → A
 first [] other = other
 first (k ∷ ks) other = cond (k .test) (k .gives) (first ks other)
+
+-- ---- tests
+
+abbrev pub between : ℕ → ℕ → ℕ → Bool
+between least most n = leb least n && leb n most
+
+-- whether there is something of which a test holds
+abbrev pub holds : {A : Type 0} → (A → Bool) → Option A → Bool
+holds test none = false
+holds test (some x) = test x
+
+abbrev pub isSome : {A : Type 0} → Option A → Bool
+isSome o = holds (λ x. true) o

@@ -9,10 +9,10 @@ use lib.Dec.{ltb, leb·suc-suc}
 use lib.ListN.{length, take}
 use lib.Seq.{append-snoc, take-all, take-append-le}
 use Rattle.laws.proofs.Choice.{by-test}
-use Rattle.code.specs.declared.Pair.{Pair}
-use Rattle.code.specs.Letters.{samePair, placeOf, has, learnt, lettersOf}
+use Rattle.words.specs.declared.Pair.{Pair}
+use Rattle.words.specs.Pairs.{samePair, without, distinct}
+use Rattle.code.specs.Letters.{placeOf, has, learnt, lettersOf}
 use Rattle.code.proofs.Lettering.{same-eq, learnt-few}
-use Rattle.lettered.specs.Distinct.{without, distinct}
 
 -- ---- a pair in a list
 has-first : (q r : Pair) (t : List Pair) → samePair r q ≡ true → has q (r ∷ t) ≡ true

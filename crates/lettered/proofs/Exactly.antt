@@ -6,12 +6,12 @@ use native.Mathlib.Omega.{arith}
 use lib.ListN.{length, drop, getD}
 use lib.Seq.{append-snoc}
 use Rattle.laws.proofs.Choice.{and-true}
-use Rattle.code.specs.declared.Pair.{Pair}
+use Rattle.words.specs.declared.Pair.{Pair}
 use Rattle.code.specs.declared.next.Next.{Next}
 use Rattle.code.specs.declared.next.Next.the-variants.{End, Spelled, Letter, Fault}
 use Rattle.code.specs.declared.next.After.{After}
 use Rattle.code.specs.declared.next.After.the-variants.{Nothing}
-use Rattle.code.specs.Letters.{pair}
+use Rattle.words.specs.Pairs.{pair}
 use Rattle.code.specs.Next.{nextPair}
 use Rattle.code.specs.Read.{pairs, onward, readFrom, readCode}
 use Rattle.code.proofs.Nexts.{Sound, next-sound}

@@ -10,10 +10,11 @@ use lib.ListN.{length, drop, getD, length-append}
 use lib.Seq.{append-snoc}
 use Rattle.laws.proofs.Choice.{and-left, and-right}
 use Rattle.laws.proofs.Lists.{stands-at, stands-below, stands-end, stands-behind}
-use Rattle.text.specs.Number.{isDigit, run}
+use Rattle.words.specs.Digits.{isDigit}
+use Rattle.text.specs.Number.{run}
 use Rattle.text.proofs.Reading.{digit-range}
 use Rattle.text.proofs.Behind.{digits-first, digits-below, digits-read}
-use Rattle.code.specs.declared.Pair.{Pair}
+use Rattle.words.specs.declared.Pair.{Pair}
 use Rattle.code.specs.declared.next.Count.the-variants.{Good}
 use Rattle.code.specs.declared.next.Next.{Next}
 use Rattle.code.specs.declared.next.Next.the-variants.{End, Spelled, Letter}

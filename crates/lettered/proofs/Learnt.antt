@@ -7,8 +7,9 @@ use native.Mathlib.Omega.{arith}
 use borrow.Author.Tests.{lt-ltb, eq-eqb}
 use lib.ListN.{length, getD, length-take}
 use Rattle.laws.proofs.Choice.{by-test}
-use Rattle.code.specs.declared.Pair.{Pair}
-use Rattle.code.specs.Letters.{pair, samePair, placeOf, learnt, lettersOf}
+use Rattle.words.specs.declared.Pair.{Pair}
+use Rattle.words.specs.Pairs.{pair, samePair}
+use Rattle.code.specs.Letters.{placeOf, learnt, lettersOf}
 use Rattle.lettered.specs.Lettered.{lettered}
 use Rattle.lettered.proofs.Distinct.{letters-are}
 

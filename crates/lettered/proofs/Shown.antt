@@ -11,7 +11,8 @@ use lib.Seq.{drop-drop}
 use Rattle.laws.specs.Lists.{all}
 use Rattle.laws.proofs.Choice.{cond-case, by-test}
 use Rattle.laws.proofs.Lists.{drop-next}
-use Rattle.text.specs.Number.{isDigit, run, worth, number, numberOf, numberAt}
+use Rattle.words.specs.Digits.{isDigit, worth}
+use Rattle.text.specs.Number.{run, number, numberOf, numberAt}
 use Rattle.text.specs.declared.number.Number.{Number}
 use Rattle.text.specs.declared.number.Number.the-variants.{Missing, Value}
 use Rattle.code.specs.declared.next.Count.{Count}

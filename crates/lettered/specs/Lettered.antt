@@ -8,11 +8,10 @@ use mathlib.Core.List.{List, [], _∷_, _++_}
 use lib.ListN.{length, take, getD}
 use Rattle.laws.specs.Bytes.{bytes}
 use Rattle.laws.specs.Lists.{all}
-use Rattle.text.specs.Number.{isDigit, worth}
-use Rattle.code.specs.declared.Pair.{Pair}
+use Rattle.words.specs.Digits.{isDigit, worth}
+use Rattle.words.specs.declared.Pair.{Pair}
 use Rattle.code.specs.Limits.{legalPair}
-use Rattle.code.specs.Letters.{pair}
-use Rattle.lettered.specs.Distinct.{distinct}
+use Rattle.words.specs.Pairs.{pair, distinct}
 
 -- "A number is a run of decimal digits; leading zeros count for nothing. A run of over 6 digits, zeros included, is out
 -- of range."

@@ -1,2 +1,1 @@
-pub mod Distinct
 pub mod Lettered

@@ -4,7 +4,8 @@ use mathlib.Core.Path.{_≡_}
 use native.Mathlib.Nat.{mul-le-mul, mod-le, div-le-self, div-mul-le-self, zero-div, lt-div-mul-add}
 use native.Mathlib.Omega.{arith}
 use Rattle.pace.specs.declared.Pace.{Pace}
-use Rattle.pace.specs.Pace.{SoundPace, inTicks, endOf, begun}
+use Rattle.meaning.specs.Time.{inTicks}
+use Rattle.pace.specs.Pace.{SoundPace, endOf, begun}
 
 pub copies-high : {p : Pace} → SoundPace p → p .copies * p .tail .0 ≤ 546000000
 copies-high s = mul-le-mul (s .copies-high) (s .tail-high)

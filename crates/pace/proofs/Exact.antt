@@ -9,7 +9,8 @@ use lib.Dec.{ltb}
 use Rattle.laws.proofs.Choice.{by-test}
 use Rattle.pace.specs.declared.Pace.{Pace}
 use Rattle.pace.specs.declared.Passed.the-variants.{Complete}
-use Rattle.pace.specs.Pace.{SoundPace, inTicks, micros, endOf, begun, movedTo, firstMicro, passed}
+use Rattle.meaning.specs.Time.{inTicks, firstMicro}
+use Rattle.pace.specs.Pace.{SoundPace, micros, endOf, begun, movedTo, passed}
 use Rattle.pace.proofs.Bounds.{begun-first, finished-within, unfinished-below}
 
 -- ---- the moment of completion

@@ -9,8 +9,8 @@ use lib.Seq.{drop-cons}
 use Rattle.laws.specs.Lists.{all}
 use Rattle.laws.proofs.Choice.{and-left, and-right}
 use Rattle.laws.proofs.Lists.{all-at}
-use Rattle.code.specs.declared.Pair.{Pair}
-use Rattle.code.specs.Letters.{pair}
+use Rattle.words.specs.declared.Pair.{Pair}
+use Rattle.words.specs.Pairs.{pair}
 use Rattle.code.specs.Limits.{legal, legalPair}
 use Rattle.code.proofs.Smallest.{Legal, legal-is}
 use Rattle.code.specs.Accepted.{Accepted}

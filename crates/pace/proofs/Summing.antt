@@ -5,7 +5,7 @@ use mathlib.Core.List.{List}
 use native.Mathlib.Omega.{arith}
 use lib.ListN.{length, take, drop, getD}
 use Rattle.laws.proofs.Lists.{drop-take-next, drop-take-end}
-use Rattle.code.specs.declared.Pair.{Pair}
+use Rattle.words.specs.declared.Pair.{Pair}
 use Rattle.pace.specs.Pace.{periodsOf, periods}
 
 -- the sum, with what is left of the pairs, is what they all last

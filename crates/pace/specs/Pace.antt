@@ -5,7 +5,8 @@ use Prim.Native.Nat.{ℕ, suc, _+_, _-_, _*_, _/_, _%_, _≤_, _<_}
 use mathlib.Core.Bool.{cond}
 use mathlib.Core.List.{List, [], _∷_}
 use lib.Dec.{ltb, leb}
-use Rattle.code.specs.declared.Pair.{Pair}
+use Rattle.words.specs.declared.Pair.{Pair}
+use Rattle.meaning.specs.Time.{inTicks, firstMicro}
 use Rattle.pace.specs.declared.Periods.{Periods}
 use Rattle.pace.specs.declared.Micros.{Micros}
 use Rattle.pace.specs.declared.Ticks.{Ticks}
@@ -26,10 +27,6 @@ ticks n = record { 0 = n }
 abbrev pub periodsOf : List Pair → ℕ
 periodsOf [] = 0
 periodsOf (p ∷ ps) = p .on + p .off + periodsOf ps
-
--- a carrier period is 1,000,000 ticks
-abbrev pub inTicks : ℕ → ℕ
-inTicks n = n * 1000000
 
 abbrev pub paceOf : ℕ → ℕ → ℕ → ℕ → Pace
 paceOf lead tail copies at = record { lead = periods lead; tail = periods tail; copies = copies; at = ticks at }
@@ -59,10 +56,6 @@ placeOf p =
 
 abbrev pub movedTo : Pace → ℕ → Pace
 movedTo p at = record { lead = p .lead; tail = p .tail; copies = p .copies; at = ticks at }
-
--- the first whole number of microseconds in which so many ticks have passed
-unfoldable pub firstMicro : ℕ → ℕ → ℕ
-firstMicro left freq = (left + (freq - 1)) / freq
 
 unfoldable pub passed : Pace → ℕ → ℕ → Passed
 passed p freq wait =

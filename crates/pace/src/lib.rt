@@ -1,7 +1,7 @@
 // Time on a connector: how far a transmission is and when it ends, exactly. A tick is a millionth of a carrier period: in one
 // microsecond as many ticks pass as the frequency has hertz, so that nothing is ever rounded.
 use code::Code;
-use code::Pair;
+use words::Pair;
 ghost use mathlib.Core.Path.{_≡_};
 ghost use Prim.Native.Nat.{_≤_};
 ghost use lib.ListN.{take, drop};

@@ -8,11 +8,12 @@ use lib.Dec.{ltb}
 use lib.ListN.{length, length-set}
 use lib.Seq.{length-take-le}
 use Rattle.laws.proofs.Choice.{cond-case}
-use Rattle.code.specs.declared.Pair.{Pair}
+use Rattle.words.specs.declared.Pair.{Pair}
 use Rattle.code.specs.declared.letters.Letters.{Letters}
 use Rattle.code.specs.declared.next.Next.{Next}
 use Rattle.code.specs.declared.next.Next.the-variants.{End, Spelled, Letter, Fault}
-use Rattle.code.specs.Letters.{pair, placeOf, learnt, held, Kept, learntLetters}
+use Rattle.words.specs.Pairs.{pair}
+use Rattle.code.specs.Letters.{placeOf, learnt, held, Kept, learntLetters}
 use Rattle.code.specs.Next.{nextPair}
 use Rattle.code.proofs.Lettering.{learn-known, learn-full, learn-new}
 use Rattle.code.proofs.Nexts.{Sound, next-sound}

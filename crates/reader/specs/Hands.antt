@@ -4,13 +4,14 @@ use mathlib.Core.Path.{_≡_}
 use mathlib.Core.List.{List, [], _∷_}
 use lib.ListN.{length, getD}
 use denote.Ref.{RefT, now}
-use Rattle.code.specs.declared.Pair.{Pair}
+use Rattle.words.specs.declared.Pair.{Pair}
 use Rattle.code.specs.declared.letters.Letters.{Letters}
 use Rattle.code.specs.declared.next.Next.{Next}
 use Rattle.code.specs.declared.next.Next.the-variants.{End, Spelled, Letter, Fault}
 use Rattle.code.specs.declared.next.After.{After}
 use Rattle.code.specs.declared.next.After.the-variants.{Nothing, Spelling, Lettering}
-use Rattle.code.specs.Letters.{pair, noLetters, learntLetters}
+use Rattle.words.specs.Pairs.{pair}
+use Rattle.code.specs.Letters.{noLetters, learntLetters}
 use Rattle.code.specs.Next.{nextPair}
 use Rattle.code.specs.Read.{Reading, pairs, fault}
 use Rattle.reader.specs.declared.CodeText.{CodeText}

@@ -1,8 +1,8 @@
 // A reader of a code's text. It holds the text and a place, and hands out one pair at a time: the pairs before a fault, and then the fault.
-use code::Pair;
 use code::letters::Letters;
 use code::next::After;
 use code::next::Next;
+use words::Pair;
 ghost use mathlib.Core.Path.{_≡_};
 ghost use Prim.Native.Nat.{_<_};
 ghost use Rattle.reader.specs.Hands.{textAt, movedTo, freshProgress, SoundProgress, pairHanded, handed, handedBy};

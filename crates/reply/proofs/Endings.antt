@@ -3,11 +3,11 @@ use Prim.Native.Nat.{ℕ}
 use mathlib.Core.Path.{refl, sym}
 use mathlib.Core.List.{List, [], _∷_, _++_, append-assoc}
 use Rattle.laws.specs.Bytes.{bytes}
-use Rattle.text.specs.Decimal.{decimal}
+use Rattle.words.specs.Decimal.{decimal, threeDigits}
 use Rattle.request.specs.Mode.{modeWord}
 use Rattle.reply.specs.declared.Reply.{Reply}
 use Rattle.reply.specs.declared.Reply.the-variants.{Devices, Version, Error, Mode, State, Complete, Busy, Stopped}
-use Rattle.reply.specs.Reply.{threeDigits, addressText, replyText, EndsWithCr}
+use Rattle.reply.specs.Reply.{addressText, replyText, EndsWithCr}
 
 -- a head, a comma, a word and the CR
 behind : (head word : List ℕ) → EndsWithCr (head ++ (bytes "," ++ word ++ bytes "\r"))

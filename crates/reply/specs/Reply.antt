@@ -1,17 +1,13 @@
 -- The bytes of each reply. Document 01's table, and: "An error line is `ERR_m:p,nnn`." "A reply ends with CR; its address and id have no
 -- leading zeros."
-use Prim.Native.Nat.{ℕ, _+_, _/_, _%_}
+use Prim.Native.Nat.{ℕ}
 use mathlib.Core.Path.{_≡_}
 use mathlib.Core.List.{List, [], _∷_, _++_}
 use Rattle.laws.specs.Bytes.{bytes}
-use Rattle.text.specs.Decimal.{decimal}
+use Rattle.words.specs.Decimal.{decimal, threeDigits}
 use Rattle.request.specs.Mode.{modeWord}
 use Rattle.reply.specs.declared.Reply.{Reply}
 use Rattle.reply.specs.declared.Reply.the-variants.{Devices, Version, Error, Mode, State, Complete, Busy, Stopped}
-
--- nnn
-abbrev pub threeDigits : ℕ → List ℕ
-threeDigits n = (48 + n / 100 % 10) ∷ (48 + n / 10 % 10) ∷ (48 + n % 10) ∷ []
 
 -- a word and m:p behind it
 abbrev pub addressText : List ℕ → ℕ → ℕ → List ℕ

@@ -6,9 +6,9 @@ ghost use Prim.Native.Nat.{_+_, _≤_};
 ghost use lib.ListN.{length};
 ghost use Rattle.laws.specs.Put.{Put};
 ghost use Rattle.laws.specs.Bytes.{bytes};
-ghost use Rattle.text.specs.Decimal.{decimal};
+ghost use Rattle.words.specs.Decimal.{decimal, threeDigits};
 ghost use Rattle.request.specs.Mode.{modeWord};
-ghost use Rattle.reply.specs.Reply.{threeDigits, addressText, replyText};
+ghost use Rattle.reply.specs.Reply.{addressText, replyText};
 
 pub enum Reply {
     Devices,

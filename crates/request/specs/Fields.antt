@@ -8,7 +8,7 @@ use Rattle.text.specs.Field.{afterComma, fieldWithin}
 use Rattle.text.specs.declared.field.Field.{Field}
 use Rattle.text.specs.declared.field.Field.the-variants.{Bad, Good}
 use Rattle.code.specs.Limits.{mostId, leastFreq, mostFreq, mostRepeat, mostOffset}
-use Rattle.request.specs.declared.fields.Fields.{Fields}
+use Rattle.words.specs.declared.Fields.{Fields}
 use Rattle.request.specs.declared.fields.Sent.{Sent}
 use Rattle.request.specs.declared.fields.Sent.the-variants as sent
 

@@ -1,15 +1,9 @@
 // The fields of a sendir.
 use code::Code;
 use text::field::Field;
+use words::Fields;
 ghost use mathlib.Core.Path.{_≡_};
 ghost use Rattle.request.specs.Fields.{capped, sentAt};
-
-pub struct Fields {
-    pub id: u64,
-    pub freq: u64,
-    pub repeat: u64,
-    pub offset: u64,
-}
 
 // A sendir behind its address: the first fault of its fields, or the fields and where the code begins.
 pub enum Sent {

@@ -9,8 +9,9 @@ use lib.Seq.{sets, getD-set-same, getD-set-other}
 use lib.Dec.{eqb, ltb}
 use borrow.Author.Tests.{eq-eqb, eqb-true, ltb-true, ltb-false}
 use Rattle.laws.proofs.Choice.{by-test, not-both}
-use Rattle.code.specs.declared.Pair.{Pair}
-use Rattle.store.specs.Store.{countsOf, numbers, slotCounts, alike}
+use Rattle.words.specs.declared.Pair.{Pair}
+use Rattle.meaning.specs.Time.{countsOf}
+use Rattle.store.specs.Store.{numbers, slotCounts, alike}
 
 -- ---- alike is equality
 pub alike-refl : (xs : List ℕ) → alike xs xs ≡ true

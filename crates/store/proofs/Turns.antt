@@ -9,8 +9,9 @@ use lib.ListN.{length, getD, set}
 use lib.Seq.{sets, slice, slice-cons}
 use lib.Dec.{eqb}
 use borrow.Author.Tests.{eq-eqb, ne-eqb, lt-ltb, le-ltb}
-use Rattle.code.specs.declared.Pair.{Pair}
-use Rattle.store.specs.Store.{countsOf, numbers, alike, onAt}
+use Rattle.words.specs.declared.Pair.{Pair}
+use Rattle.meaning.specs.Time.{countsOf, onAt}
+use Rattle.store.specs.Store.{numbers, alike}
 
 abbrev none : Pair
 none = record { on = 0; off = 0 }

@@ -1,13 +1,14 @@
 // The pairs of what the connectors transmit, all in one lent array: 520 numbers for each connector, on and off counts in turn. What
 // stands in a slot behind the pairs that are being sent, or in the slot of an idle connector, means nothing.
 use code::Code;
-use code::Pair;
+use words::Pair;
 ghost use mathlib.Core.Path.{_≡_};
 ghost use mathlib.Core.Bool.{true};
 ghost use Prim.Native.Nat.{_*_, _≤_, _<_};
 ghost use lib.ListN.{take};
 ghost use lib.Seq.{sets};
-ghost use Rattle.store.specs.Store.{countsOf, slotCounts, alike, onAt};
+ghost use Rattle.meaning.specs.Time.{countsOf, onAt};
+ghost use Rattle.store.specs.Store.{slotCounts, alike};
 
 // Keeps the first count pairs in a slot.
 pub fn keep(store: &mut [u16; 1560], slot: usize, pairs: [Pair; Code::MOST_PAIRS], count: usize)

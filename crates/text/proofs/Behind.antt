@@ -11,9 +11,10 @@ use Rattle.laws.proofs.Choice.{and-left}
 use Rattle.laws.proofs.Lists.{leading-all, stands-at, stands-below, stands-behind}
 use Rattle.text.specs.declared.number.Number.the-variants.{Value}
 use Rattle.text.specs.declared.field.Field.the-variants.{Good}
-use Rattle.text.specs.Number.{isDigit, run, worth, number, numberOf, numberAt}
+use Rattle.words.specs.Digits.{isDigit, worth}
+use Rattle.text.specs.Number.{run, number, numberOf, numberAt}
 use Rattle.text.specs.Field.{endsField, afterComma, fieldWithin}
-use Rattle.text.specs.Decimal.{decimal}
+use Rattle.words.specs.Decimal.{decimal}
 use Rattle.text.proofs.Decimals.{decimal-digits, decimal-few, decimal-some, decimal-worth}
 
 module _ (s : List ℕ) (at : ℕ) (ds rest : List ℕ) (digits : all isDigit ds ≡ true) (some : 1 ≤ length ds) (e : drop at s ≡ ds ++ rest) where

@@ -13,8 +13,8 @@ use Rattle.laws.specs.Put.{Put}
 use Rattle.laws.proofs.Choice.{by-test, cond-case}
 use Rattle.laws.proofs.Lists.{all-append}
 use Rattle.laws.proofs.Put.{then, byte}
-use Rattle.text.specs.Number.{isDigit, worth}
-use Rattle.text.specs.Decimal.{decimalIn, decimal}
+use Rattle.words.specs.Digits.{isDigit, worth}
+use Rattle.words.specs.Decimal.{decimalIn, decimal}
 
 tenth : (n p : ℕ) → n < 10 * p → n / 10 < p
 tenth n p h = omega arith

@@ -11,7 +11,8 @@ use lib.Dec.{ltb, leb}
 use lib.ListN.{length, drop, getD}
 use Rattle.laws.proofs.Choice.{by-test, not-both}
 use Rattle.laws.proofs.Lists.{leading-more}
-use Rattle.text.specs.Number.{isDigit, run, worth, number, numberOf, numberAt, grown, foundNumber}
+use Rattle.words.specs.Digits.{isDigit, worth}
+use Rattle.text.specs.Number.{run, number, numberOf, numberAt, grown, foundNumber}
 
 pub digit-range : (b : ℕ) → isDigit b ≡ true → (48 ≤ b) × (b ≤ 57)
 digit-range b h = go (ltb b 48) refl h

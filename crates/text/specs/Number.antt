@@ -1,25 +1,18 @@
 -- Document 01: "A number is a run of decimal digits; leading zeros count for nothing. A run of over 6 digits, zeros
 -- included, is out of range."
 use Prim.Native.Nat.{ℕ, _+_, _-_, _*_}
-use mathlib.Core.List.{List, [], _∷_}
-use mathlib.Core.Bool.{Bool, false, cond}
+use mathlib.Core.List.{List}
+use mathlib.Core.Bool.{cond}
 use lib.ListN.{length, drop}
 use lib.Dec.{ltb, leb, eqb}
 use Rattle.laws.specs.Lists.{leading}
+use Rattle.words.specs.Digits.{isDigit, worth}
 use Rattle.text.specs.declared.number.Number.{Number}
 use Rattle.text.specs.declared.number.Number.the-variants.{Missing, Value}
-
-abbrev pub isDigit : ℕ → Bool
-isDigit b = cond (ltb b 48) false (leb b 57)
 
 -- the digits that a text begins with
 abbrev pub run : List ℕ → List ℕ
 run = leading isDigit
-
--- what digits are worth, behind others worth v
-abbrev pub worth : ℕ → List ℕ → ℕ
-worth v [] = v
-worth v (d ∷ ds) = worth (v * 10 + (d - 48)) ds
 
 -- the number that a run of digits is. One that is out of range counts as 1,000,000, which is above every limit of
 -- document 01: the greatest, that of a repeat, is 999,999.

@@ -1,7 +1,8 @@
 // A number: a run of decimal digits.
 ghost use mathlib.Core.Path.{_≡_};
 ghost use Prim.Native.Nat.{_≤_};
-ghost use Rattle.text.specs.Number.{isDigit, grown, foundNumber, numberAt};
+ghost use Rattle.words.specs.Digits.{isDigit};
+ghost use Rattle.text.specs.Number.{grown, foundNumber, numberAt};
 
 // What stands at a place: no digit, or a number and the place behind it.
 pub enum Number {

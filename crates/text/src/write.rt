@@ -2,7 +2,7 @@
 ghost use Prim.Native.Nat.{_+_, _≤_};
 ghost use lib.ListN.{length};
 ghost use Rattle.laws.specs.Put.{Put};
-ghost use Rattle.text.specs.Decimal.{decimal};
+ghost use Rattle.words.specs.Decimal.{decimal};
 
 // The bytes of a word.
 pub fn put_word(buf: &mut [u8], at: usize, w: &[u8]) -> usize

@@ -1,7 +1,7 @@
 // Codes handed out pair by pair, through a reader of the text.
-use code::Pair;
 use reader::Piece;
 use reader::Progress;
+use words::Pair;
 
 fn say_pair(on: u64, off: u64) {
     crate::say_number(on);

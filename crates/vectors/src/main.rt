@@ -5,7 +5,7 @@ use hub::Answer;
 use hub::Hub;
 use libc::STDOUT_FILENO;
 use request::Request;
-use request::fields::Fields;
+use words::Fields;
 use writer::Form;
 use writer::sendir::Command;
 use writer::sendir::Written;

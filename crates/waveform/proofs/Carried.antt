@@ -9,12 +9,12 @@ use lib.Dec.{ltb}
 use lib.ListN.{take, drop, take-append-drop}
 use borrow.Author.Tests.{ltb-true, ltb-false}
 use Rattle.laws.proofs.Choice.{cond-case}
-use Rattle.code.specs.declared.Pair.{Pair}
-use Rattle.request.specs.declared.fields.Fields.{Fields}
-use Rattle.pace.specs.Pace.{periodsOf, inTicks, placeOf}
+use Rattle.words.specs.declared.Pair.{Pair}
+use Rattle.words.specs.declared.Fields.{Fields}
+use Rattle.meaning.specs.Time.{inTicks, countsOf, onAt, Transmission, waveform, furtherCopy, done, complete, carrier}
+use Rattle.pace.specs.Pace.{periodsOf, placeOf}
 use Rattle.pace.proofs.Lasting.{periods-split}
-use Rattle.store.specs.Store.{countsOf, onAt}
-use Rattle.waveform.specs.Waveform.{Transmission, times, waveform, furtherCopy, done, complete, carrier}
+use Rattle.laws.specs.Lists.{times}
 use Rattle.waveform.proofs.Copies.{first-lasts, further-is}
 use Rattle.waveform.proofs.Turning.{on-before, on-pairs, on-times}
 use Rattle.waveform.proofs.Paced.{Fit, removed, lead, tail, paceAt, tail-some, total-is, under-way}

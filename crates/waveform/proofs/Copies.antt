@@ -6,12 +6,12 @@ use native.Mathlib.Nat.{mul-assoc}
 use native.Mathlib.Omega.{arith}
 use lib.ListN.{take, drop}
 use lib.Seq.{drop-nil}
-use Rattle.code.specs.declared.Pair.{Pair}
-use Rattle.request.specs.declared.fields.Fields.{Fields}
-use Rattle.pace.specs.Pace.{periodsOf, inTicks}
+use Rattle.words.specs.declared.Pair.{Pair}
+use Rattle.words.specs.declared.Fields.{Fields}
+use Rattle.meaning.specs.Time.{inTicks, countsOf, furtherCopy, waveform, lasts}
+use Rattle.pace.specs.Pace.{periodsOf}
 use Rattle.pace.proofs.Lasting.{periods-split}
-use Rattle.store.specs.Store.{countsOf}
-use Rattle.waveform.specs.Waveform.{furtherCopy, times, waveform, lasts}
+use Rattle.laws.specs.Lists.{times}
 
 lasts-append : (a b : List ℕ) → lasts (a ++ b) ≡ lasts a + lasts b
 lasts-append [] b = omega arith

@@ -9,11 +9,10 @@ use lib.Dec.{ltb}
 use lib.ListN.{length}
 use borrow.Author.Tests.{ltb-true, ltb-false, lt-ltb, le-ltb, le-leb, leb-true, eqb-true, eqb-false, eq-eqb, ne-eqb}
 use Rattle.laws.proofs.Choice.{by-test, not-both}
-use Rattle.pace.specs.Pace.{inTicks, firstMicro, SoundPace}
+use Rattle.meaning.specs.Time.{inTicks, firstMicro, onAt, Transmission, waveform, lasts, total, done, complete, finish, carrier, begun, renewed}
+use Rattle.pace.specs.Pace.{SoundPace}
 use Rattle.pace.proofs.Exact.{first-micro}
 use Rattle.pace.proofs.Lasting.{lead-high, tail-high}
-use Rattle.store.specs.Store.{onAt}
-use Rattle.waveform.specs.Waveform.{Transmission, waveform, lasts, total, done, complete, finish, carrier, begun, renewed}
 use Rattle.waveform.specs.Meaning.{isEven, renewedAt, InOrder, lastOf, SameStart}
 use Rattle.waveform.proofs.Copies.{waveform-ticks}
 use Rattle.waveform.proofs.Turning.{turned, on-behind}

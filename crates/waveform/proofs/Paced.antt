@@ -10,18 +10,18 @@ use lib.Dec.{ltb, leb}
 use lib.ListN.{length, take, drop}
 use borrow.Author.Tests.{ltb-true, ltb-false, leb-true, leb-false, le-leb, lt-leb}
 use Rattle.laws.proofs.Choice.{cond-case}
-use Rattle.code.specs.declared.Pair.{Pair}
+use Rattle.words.specs.declared.Pair.{Pair}
 use Rattle.code.specs.Accepted.{Accepted}
-use Rattle.request.specs.declared.fields.Fields.{Fields}
+use Rattle.words.specs.declared.Fields.{Fields}
 use Rattle.request.specs.Accepted.{FieldsWithin}
 use Rattle.pace.specs.declared.Pace.{Pace}
 use Rattle.pace.specs.declared.Passed.the-variants.{Running, Complete}
 use Rattle.pace.specs.Pace as pace
-use Rattle.pace.specs.Pace.{periodsOf, inTicks, paceOf, periods, micros, endOf, passed, firstMicro}
+use Rattle.meaning.specs.Time.{inTicks, firstMicro, Transmission, total, done, complete, finish, begun, started, renewed}
+use Rattle.pace.specs.Pace.{periodsOf, paceOf, periods, micros, endOf, passed}
 use Rattle.pace.proofs.Bounds.{finished}
 use Rattle.pace.proofs.Exact.{moment-wait}
 use Rattle.pace.proofs.Lasting.{tail-low}
-use Rattle.waveform.specs.Waveform.{Transmission, total, done, complete, finish, begun, started, renewed}
 use Rattle.waveform.proofs.Copies.{waveform-ticks, further-lasts, first-lasts}
 use Rattle.waveform.proofs.Places.{leb-both, none-gone, one-gone, less-left}
 

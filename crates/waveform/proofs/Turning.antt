@@ -8,10 +8,10 @@ use lib.Dec.{ltb}
 use lib.ListN.{length}
 use borrow.Author.Tests.{le-ltb, ltb-false}
 use Rattle.laws.proofs.Choice.{by-test}
-use Rattle.code.specs.declared.Pair.{Pair}
-use Rattle.pace.specs.Pace.{periodsOf, inTicks}
-use Rattle.store.specs.Store.{countsOf, onAt}
-use Rattle.waveform.specs.Waveform.{times, lasts}
+use Rattle.words.specs.declared.Pair.{Pair}
+use Rattle.meaning.specs.Time.{inTicks, countsOf, onAt, lasts}
+use Rattle.pace.specs.Pace.{periodsOf}
+use Rattle.laws.specs.Lists.{times}
 use Rattle.waveform.proofs.Copies.{lasts-counts}
 
 -- on or off, turned so many times

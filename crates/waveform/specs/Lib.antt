@@ -1,2 +1,1 @@
-pub mod Waveform
 pub mod Meaning

@@ -4,7 +4,7 @@ use mathlib.Core.Path.{_≡_}
 use mathlib.Core.Bool.{Bool}
 use mathlib.Core.List.{List, [], _∷_}
 use lib.Dec.{eqb}
-use Rattle.waveform.specs.Waveform.{Transmission, renewed}
+use Rattle.meaning.specs.Time.{Transmission, renewed}
 
 -- on and off counts take turns, so that one with an even number of them before it is an on count
 abbrev pub isEven : ℕ → Bool

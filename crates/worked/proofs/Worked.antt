@@ -3,9 +3,10 @@ use mathlib.Core.Path.{refl}
 use native.Mathlib.Omega.{arith}
 use Rattle.text.specs.Number.{number, numberOf, numberAt}
 use Rattle.text.specs.Field.{endsField, afterComma, fieldWithin}
-use Rattle.text.specs.Decimal.{decimal}
+use Rattle.words.specs.Decimal.{decimal}
 use Rattle.code.specs.Limits.{legal}
-use Rattle.code.specs.Letters.{samePair, learnt}
+use Rattle.words.specs.Pairs.{samePair}
+use Rattle.code.specs.Letters.{learnt}
 use Rattle.code.specs.Next.{isLetter, countAt, offAt, afterOn, spelledAt, letterAt, begunAt, nextPair}
 use Rattle.code.specs.Read.{readCode}
 use Rattle.code.proofs.Smallest.{shortest-count}
@@ -14,7 +15,8 @@ use Rattle.request.specs.Address.{portAt, addressAt, addressFault}
 use Rattle.request.specs.Fields.{capped, sentAt}
 use Rattle.request.specs.Request.{addressed, readRequest}
 use Rattle.writer.specs.CodeText.{codeText}
-use Rattle.pace.specs.Pace.{endOf, firstMicro, passed}
+use Rattle.meaning.specs.Time.{firstMicro}
+use Rattle.pace.specs.Pace.{endOf, passed}
 use Rattle.reply.specs.Reply.{replyText}
 use Rattle.connector.specs.Send.{runOf}
 use Rattle.hub.specs.Send.{sendStep, codeStep, sentStep}

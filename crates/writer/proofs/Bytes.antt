@@ -11,15 +11,15 @@ use Rattle.laws.specs.Bytes.{bytes}
 use Rattle.laws.specs.Lists.{all}
 use Rattle.laws.proofs.Choice.{by-test, and-left, and-right, and-true}
 use Rattle.laws.proofs.Lists.{all-append, all-weaker}
-use Rattle.text.specs.Number.{isDigit}
-use Rattle.text.specs.Decimal.{decimal}
+use Rattle.words.specs.Digits.{isDigit}
+use Rattle.words.specs.Decimal.{decimal}
 use Rattle.text.proofs.Decimals.{decimal-digits, decimal-few}
-use Rattle.code.specs.declared.Pair.{Pair}
+use Rattle.words.specs.declared.Pair.{Pair}
 use Rattle.code.specs.declared.next.After.{After}
 use Rattle.code.specs.declared.next.After.the-variants.{Nothing, Spelling, Lettering}
 use Rattle.code.specs.Letters.{placeOf, learnt}
 use Rattle.code.specs.Limits.{legal, legalPair}
-use Rattle.request.specs.declared.fields.Fields.{Fields}
+use Rattle.words.specs.declared.Fields.{Fields}
 use Rattle.request.specs.Fields.{capped}
 use Rattle.lettered.specs.Lettered.{Item, spelled, letter, itemText, textOf}
 use Rattle.lettered.proofs.Written.{afterOf, front, front-letter, textFrom, text-from}

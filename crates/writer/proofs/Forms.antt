@@ -10,7 +10,7 @@ use lib.Dec.{ltb}
 use lib.ListN.{length, getD}
 use Rattle.laws.specs.Lists.{all}
 use Rattle.laws.proofs.Choice.{by-test, and-true, not-both}
-use Rattle.code.specs.declared.Pair.{Pair}
+use Rattle.words.specs.declared.Pair.{Pair}
 use Rattle.code.specs.Letters.{placeOf, learnt, lettersOf}
 use Rattle.code.specs.Next.{isLetter}
 use Rattle.code.proofs.Lettering.{learnt-few}

@@ -9,9 +9,9 @@ use lib.ListN.{length, take, drop, getD, set, replicate, drop-of-length-le}
 use lib.Seq.{take-suc-set, append-snoc}
 use Rattle.laws.specs.Lists.{all}
 use Rattle.laws.proofs.Lists.{drop-next}
-use Rattle.code.specs.declared.Pair.{Pair}
+use Rattle.words.specs.declared.Pair.{Pair}
 use Rattle.code.specs.declared.CodeRead.the-variants.{Pairs}
-use Rattle.code.specs.Letters.{pair}
+use Rattle.words.specs.Pairs.{pair}
 use Rattle.code.specs.Limits.{legal}
 use Rattle.code.specs.Read.{pairs, codeOf}
 use Rattle.code.proofs.Filled.{Filled, filled-none, filled-more, filled-code}

@@ -12,13 +12,13 @@ use Rattle.laws.proofs.Lists.{stands-at, stands-below, stands-behind}
 use Rattle.text.specs.declared.number.Number.the-variants.{Value}
 use Rattle.text.specs.Number.{numberAt}
 use Rattle.text.specs.Field.{afterComma, fieldIs}
-use Rattle.text.specs.Decimal.{decimal}
+use Rattle.words.specs.Decimal.{decimal}
 use Rattle.text.proofs.Behind.{number-behind, field-ends, field-comma, field-behind, field-good}
 use Rattle.code.specs.Limits.{mostId, leastFreq, mostFreq, mostRepeat, mostOffset}
 use Rattle.request.specs.declared.name.Name.the-variants as name
 use Rattle.request.specs.declared.name.NameRead.the-variants.{Known}
 use Rattle.request.specs.declared.address.Address.the-variants.{At}
-use Rattle.request.specs.declared.fields.Fields.{Fields}
+use Rattle.words.specs.declared.Fields.{Fields}
 use Rattle.request.specs.declared.fields.Sent.the-variants as sent
 use Rattle.request.specs.declared.Request.the-variants.{SendIr}
 use Rattle.request.specs.Name.{getdevices, getversion, nameAt}

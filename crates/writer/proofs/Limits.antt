@@ -9,11 +9,11 @@ use lib.Dec.{ltb, eqb}
 use lib.ListN.{length}
 use Rattle.laws.specs.Lists.{all}
 use Rattle.laws.proofs.Choice.{cond-case, guard, and-left, and-right, and-true}
-use Rattle.code.specs.declared.Pair.{Pair}
+use Rattle.words.specs.declared.Pair.{Pair}
 use Rattle.code.specs.Limits.{legal, legalPair, mostId, leastFreq, mostFreq, mostRepeat, mostOffset}
 use Rattle.code.specs.Read.{Reading, pairs, fault}
 use Rattle.code.specs.Accepted.{Accepted}
-use Rattle.request.specs.declared.fields.Fields.{Fields}
+use Rattle.words.specs.declared.Fields.{Fields}
 use Rattle.request.proofs.Capping.{capped-high}
 use Rattle.writer.specs.Given.{pairsOf, countsGiven, addressWithin, fieldsWithin}
 use Rattle.writer.specs.Sendir.{Small}

@@ -9,9 +9,9 @@ use lib.Dec.{ltb}
 use lib.ListN.{length, drop}
 use Rattle.laws.specs.Lists.{all}
 use Rattle.laws.proofs.Choice.{by-test, and-left, and-right}
-use Rattle.text.specs.Decimal.{decimal}
+use Rattle.words.specs.Decimal.{decimal}
 use Rattle.text.proofs.Decimals.{decimal-digits, decimal-few, decimal-some, decimal-worth}
-use Rattle.code.specs.declared.Pair.{Pair}
+use Rattle.words.specs.declared.Pair.{Pair}
 use Rattle.code.specs.Limits.{legal, legalPair}
 use Rattle.code.specs.Letters.{placeOf}
 use Rattle.code.specs.Read.{pairs, readCode}

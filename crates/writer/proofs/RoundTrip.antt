@@ -9,9 +9,9 @@ use lib.Dec.{ltb, eqb}
 use lib.ListN.{length}
 use Rattle.laws.specs.Lists.{all}
 use Rattle.laws.proofs.Choice.{cond-case}
-use Rattle.text.specs.Number.{isDigit}
+use Rattle.words.specs.Digits.{isDigit}
 use Rattle.text.proofs.Reading.{digit-range}
-use Rattle.code.specs.declared.Pair.{Pair}
+use Rattle.words.specs.declared.Pair.{Pair}
 use Rattle.code.specs.Limits.{legal, offsetWithin}
 use Rattle.code.specs.Read.{Reading, pairs, fault}
 use Rattle.code.specs.Accepted.{Accepted}

@@ -9,12 +9,13 @@ use Rattle.laws.specs.Bytes.{bytes}
 use Rattle.laws.specs.Put.{Put}
 use Rattle.laws.proofs.Lists.{drop-take-next, drop-take-end}
 use Rattle.laws.proofs.Put.{then, byte}
-use Rattle.text.specs.Decimal.{decimal}
-use Rattle.code.specs.declared.Pair.{Pair}
+use Rattle.words.specs.Decimal.{decimal}
+use Rattle.words.specs.declared.Pair.{Pair}
 use Rattle.code.specs.declared.letters.Letters.{Letters}
 use Rattle.code.specs.declared.next.After.{After}
 use Rattle.code.specs.declared.next.After.the-variants.{Nothing, Spelling, Lettering}
-use Rattle.code.specs.Letters.{pair, noLetters, placeOf, learnt, held, Kept}
+use Rattle.words.specs.Pairs.{pair}
+use Rattle.code.specs.Letters.{noLetters, placeOf, learnt, held, Kept}
 use Rattle.lettered.specs.Lettered.{Item, letter, itemText}
 use Rattle.lettered.proofs.Learnt.{learnt-known}
 use Rattle.lettered.proofs.Written.{afterOf, front, front-letter, textFrom, text-from}

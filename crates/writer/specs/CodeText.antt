@@ -4,8 +4,8 @@ use Prim.Native.Nat.{ℕ}
 use mathlib.Core.Bool.{cond}
 use mathlib.Core.List.{List, [], _∷_}
 use Rattle.laws.specs.Bytes.{bytes}
-use Rattle.text.specs.Decimal.{decimal}
-use Rattle.code.specs.declared.Pair.{Pair}
+use Rattle.words.specs.Decimal.{decimal}
+use Rattle.words.specs.declared.Pair.{Pair}
 use Rattle.code.specs.declared.next.After.{After}
 use Rattle.code.specs.declared.next.After.the-variants.{Nothing, Spelling, Lettering}
 use Rattle.code.specs.Letters.{has, placeOf, learnt}

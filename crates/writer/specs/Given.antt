@@ -7,11 +7,11 @@ use lib.ListN.{length}
 use lib.Dec.{ltb, leb, eqb}
 use Rattle.laws.specs.Checks.{_⇒_, first}
 use Rattle.laws.specs.Lists.{all}
-use Rattle.code.specs.declared.Pair.{Pair}
-use Rattle.code.specs.Letters.{pair}
+use Rattle.words.specs.declared.Pair.{Pair}
+use Rattle.words.specs.Pairs.{pair}
 use Rattle.code.specs.Limits.{legal, mostId, leastFreq, mostFreq, mostRepeat, mostOffset}
 use Rattle.code.specs.Read.{Reading, pairs, fault}
-use Rattle.request.specs.declared.fields.Fields.{Fields}
+use Rattle.words.specs.declared.Fields.{Fields}
 
 -- on and off in turn
 abbrev pub pairsOf : List ℕ → List Pair

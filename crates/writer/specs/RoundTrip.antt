@@ -5,7 +5,7 @@
 use Prim.Native.Nat.{ℕ}
 use mathlib.Core.Path.{_≡_}
 use mathlib.Core.List.{List}
-use Rattle.code.specs.declared.Pair.{Pair}
+use Rattle.words.specs.declared.Pair.{Pair}
 use Rattle.code.specs.Read.{pairs, readCode}
 use Rattle.request.specs.declared.Request.the-variants.{SendIr}
 use Rattle.request.specs.declared.fields.Sent.the-variants as sent

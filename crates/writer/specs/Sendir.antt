@@ -9,11 +9,11 @@ use lib.Dec.{ltb}
 use lib.Seq.{sets}
 use Rattle.laws.specs.Bytes.{bytes}
 use Rattle.laws.specs.Checks.{_⇒_, first}
-use Rattle.text.specs.Decimal.{decimal}
-use Rattle.code.specs.declared.Pair.{Pair}
+use Rattle.words.specs.Decimal.{decimal}
+use Rattle.words.specs.declared.Pair.{Pair}
 use Rattle.code.specs.Limits.{offsetWithin}
 use Rattle.code.specs.Read.{Reading, pairs, fault}
-use Rattle.request.specs.declared.fields.Fields.{Fields}
+use Rattle.words.specs.declared.Fields.{Fields}
 use Rattle.request.specs.Fields.{capped}
 use Rattle.writer.specs.declared.Form.{Form}
 use Rattle.writer.specs.declared.sendir.Command.{Command}

@@ -1,15 +1,15 @@
 // A code's text.
 use crate::Form;
 use code::Code;
-use code::Pair;
 use code::letters::Letters;
 use code::next::After;
+use words::Pair;
 ghost use mathlib.Core.Path.{_≡_};
 ghost use mathlib.Core.List.{_++_};
 ghost use Prim.Native.Nat.{_+_, _*_, _≤_};
 ghost use lib.ListN.{length, take};
 ghost use Rattle.laws.specs.Put.{Put};
-ghost use Rattle.code.specs.Letters.{pair};
+ghost use Rattle.words.specs.Pairs.{pair};
 ghost use Rattle.writer.specs.CodeText.{inUse, comma, spelling, codeText};
 
 // Of so many letters, those that the form uses.

@@ -1,8 +1,8 @@
 // A command as a caller gives it: numbers of any size, counts in a slice of any length.
 use code::Code;
 use code::CodeRead;
-use code::Pair;
-use request::fields::Fields;
+use words::Fields;
+use words::Pair;
 ghost use mathlib.Core.Path.{_≡_};
 ghost use lib.ListN.{length};
 ghost use Rattle.code.specs.Read.{codeOf, fault};

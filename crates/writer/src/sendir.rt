@@ -1,7 +1,7 @@
 // A sendir line, without its CR.
 use crate::Form;
 use code::CodeRead;
-use request::fields::Fields;
+use words::Fields;
 ghost use Prim.Native.Nat.{_+_, _≤_, _<_};
 ghost use lib.ListN.{length};
 ghost use Rattle.laws.specs.Put.{Put};

@@ -2,7 +2,8 @@ use Prim.Native.Nat.{_+_, _*_, _-_, _≤_}
 use mathlib.Core.Path.{_≡_, sym, _∙_}
 use mathlib.Core.Bool.{true}
 use native.Mathlib.Omega.{arith}
-use Rattle.store.specs.Store.{onAt, slotCounts, numbers}
+use Rattle.meaning.specs.Time.{onAt}
+use Rattle.store.specs.Store.{slotCounts, numbers}
 use Rattle.store.proofs.Turns.{inside, beyond}
 use Rattle.store.proofs.carrier.Statement.{statement}
 use Rattle.store.proofs.carrier.Tie as tie

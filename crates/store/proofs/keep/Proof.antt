@@ -4,7 +4,7 @@ use native.Mathlib.Nat.{add-zero}
 use native.Mathlib.Omega.{arith}
 use lib.ListN.{length, take}
 use lib.Seq.{sets, slice-empty}
-use Rattle.store.specs.Store.{countsOf}
+use Rattle.meaning.specs.Time.{countsOf}
 use Rattle.store.proofs.Turns.{filled, fill}
 use Rattle.store.proofs.keep.Statement.{statement}
 use Rattle.store.proofs.keep.Tie as tie

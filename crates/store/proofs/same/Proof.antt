@@ -4,7 +4,8 @@ use native.Mathlib.Nat.{add-zero, sub-zero}
 use native.Mathlib.Omega.{arith}
 use lib.ListN.{length, take}
 use lib.Seq.{slice-empty}
-use Rattle.store.specs.Store.{countsOf, slotCounts, alike}
+use Rattle.meaning.specs.Time.{countsOf}
+use Rattle.store.specs.Store.{slotCounts, alike}
 use Rattle.store.proofs.Turns.{rest, differ-on, differ-off, agree}
 use Rattle.store.proofs.same.Statement.{statement}
 use Rattle.store.proofs.same.Tie as tie

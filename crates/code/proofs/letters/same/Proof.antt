@@ -1,5 +1,5 @@
 use borrow.Author.Tests.{eq-eqb, ne-eqb}
-use Rattle.code.specs.Letters.{samePair}
+use Rattle.words.specs.Pairs.{samePair}
 use Rattle.code.proofs.letters.same.Statement.{statement}
 use Rattle.code.proofs.letters.same.Tie as tie
 use borrow.Author.Needs.{needs}

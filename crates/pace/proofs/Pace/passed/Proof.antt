@@ -1,6 +1,7 @@
 use native.Mathlib.Omega.{arith}
 use borrow.Author.Tests.{le-leb, lt-leb}
-use Rattle.pace.specs.Pace.{passed, firstMicro}
+use Rattle.meaning.specs.Time.{firstMicro}
+use Rattle.pace.specs.Pace.{passed}
 use Rattle.pace.proofs.Bounds.{end-high, wait-high}
 use borrow.Author.Needs.{needs}
 use Rattle.pace.proofs.Pace.passed.Statement.{statement}

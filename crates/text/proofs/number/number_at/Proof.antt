@@ -6,7 +6,7 @@ use native.Mathlib.Omega.{arith}
 use borrow.Author.Tests.{not-true, not-false}
 use lib.ListN.{length, getD}
 use Rattle.laws.proofs.Lists.{leading-stop, leading-done}
-use Rattle.text.specs.Number.{isDigit}
+use Rattle.words.specs.Digits.{isDigit}
 use Rattle.text.proofs.Reading.{Reading, reading-start, reading-more, reading-stop, reading-small, digit-range}
 use Rattle.text.proofs.number.number_at.Statement.{statement}
 use Rattle.text.proofs.number.number_at.Tie as tie

@@ -3,7 +3,7 @@ use native.Mathlib.Omega.{arith}
 use lib.ListN.{length, length-append}
 use Rattle.laws.specs.Bytes.{bytes}
 use Rattle.laws.proofs.Put.{then}
-use Rattle.text.specs.Decimal.{decimal}
+use Rattle.words.specs.Decimal.{decimal}
 use Rattle.text.proofs.Decimals.{decimal-few}
 use borrow.Author.Needs.{needs}
 use Rattle.writer.proofs.sendir.put_field.Statement.{statement}

@@ -12,3 +12,7 @@ decimalIn (suc k) n = cond (ltb n 10) ((48 + n % 10) ∷ []) (decimalIn k (n / 1
 -- 20 digits are room for every 64-bit number
 unfoldable pub decimal : ℕ → List ℕ
 decimal n = decimalIn 20 n
+
+-- nnn: three digits, of a number below 1,000
+abbrev pub threeDigits : ℕ → List ℕ
+threeDigits n = (48 + n / 100 % 10) ∷ (48 + n / 10 % 10) ∷ (48 + n % 10) ∷ []

@@ -1,0 +1,122 @@
+-- Text in, text out: the fields of a line, the text of a reply, and a code read byte by byte. A text is a list of bytes; a comma is 44, a colon 58.
+use Prim.Native.Nat.{ℕ, _-_, _*_}
+use Prim.Native.String.{String}
+use mathlib.Core.Bool.{Bool, cond, not, _&&_}
+use mathlib.Core.List.{List, [], _∷_, _++_}
+use mathlib.Core.Option.{Option, none, some}
+use lib.Dec.{ltb, leb, eqb}
+use lib.ListN.{length, take, getD}
+use Rattle.laws.specs.Bytes.{bytes}
+use Rattle.laws.specs.Checks.{_⇒_, first, between}
+use Rattle.laws.specs.Lists.{all, same, cut, part}
+use Rattle.words.specs.Digits.{isDigit, worth}
+use Rattle.words.specs.Decimal.{decimal}
+use Rattle.words.specs.Pairs.{pair, distinct}
+use Rattle.words.specs.declared.Pair.{Pair}
+
+-- "Names are case sensitive."
+abbrev pub is : String → List ℕ → Bool
+is word f = same (bytes word) f
+
+-- "A number is a run of decimal digits; leading zeros count for nothing. A run of over 6 digits, zeros included, is out of range."
+unfoldable pub isNumber : List ℕ → Bool
+isNumber f = all isDigit f && ltb 0 (length f)
+
+abbrev pub number : List ℕ → ℕ
+number f = worth 0 f
+
+unfoldable pub within : ℕ → ℕ → List ℕ → Bool
+within least most f = isNumber f && leb (length f) 6 && between least most (number f)
+
+-- "digits, colon, digits": m:p
+unfoldable pub isAddress : List ℕ → Bool
+isAddress f = eqb (length (cut 58 f)) 2 && isNumber (part 58 0 f) && isNumber (part 58 1 f)
+
+-- ---- replies: "A reply ends with CR; its address and id have no leading zeros."
+
+-- a word and m:p; the same, a comma, what comes last and CR
+abbrev pub addressed : String → ℕ → ℕ → List ℕ
+addressed word m p = bytes word ++ decimal m ++ bytes ":" ++ decimal p
+
+abbrev pub line : String → ℕ → ℕ → List ℕ → List ℕ
+line word m p last = addressed word m p ++ (bytes "," ++ last ++ bytes "\r")
+
+-- ---- a code: "Faults, the first from the left, a number being judged at its end, a letter being any of A to Z"
+
+-- "Each count is 4 to 50000 and lasts at least 80 µs: 12,500 × count is at least freq."
+unfoldable pub isCount : ℕ → List ℕ → Bool
+isCount freq ds = within 4 50000 ds && leb freq (12500 * number ds)
+
+abbrev pub isLetter : ℕ → Bool
+isLetter b = between 65 90 b
+
+-- "going through the expanded pairs in order, the first 15 distinct pairs get A to O as each first occurs"
+abbrev pub lettered : List Pair → List Pair
+lettered ps = take 15 (distinct ps)
+
+-- how far the text is read: where a pair may begin, at first or behind a letter; in an on count, with its digits; where the off count is due;
+-- in the off count; behind the comma that follows a spelled pair
+pub data Place : Type 0 where
+  opening : Place
+  on : List ℕ → Place
+  due : ℕ → Place
+  off : ℕ → List ℕ → Place
+  spelling : Place
+
+pub data Step : Type 0 where
+  stop : ℕ → Step
+  go : List Pair → Place → Step
+
+-- 020 "the 261st pair is begun by a digit, or by a letter ..., ahead of any judging of that letter"; 022 "a letter without a pair"
+abbrev pub lettering : List Pair → ℕ → Step
+lettering ps b = first ((leb 260 (length ps) ⇒ stop 20) ∷ (not (ltb (b - 65) (length (lettered ps))) ⇒ stop 22) ∷ [])
+    (go (ps ++ (getD (lettered ps) (b - 65) (pair 0 0) ∷ [])) opening)
+
+abbrev pub beginning : List Pair → ℕ → Step
+beginning ps b = first ((not (isDigit b) ⇒ stop 9) ∷ (leb 260 (length ps) ⇒ stop 20) ∷ []) (go ps (on (b ∷ [])))
+
+-- the next byte: 021 "a letter where an off count is due or where an on count has just ended", 009 "all else"
+abbrev pub step : ℕ → List Pair → Place → ℕ → Step
+step freq ps opening b = cond (isLetter b) (lettering ps b) (beginning ps b)
+step freq ps (on ds) b = first
+    ((isDigit b ⇒ go ps (on (ds ++ (b ∷ []))))
+    ∷ (not (isCount freq ds) ⇒ stop 9)
+    ∷ (isLetter b ⇒ stop 21)
+    ∷ (eqb b 44 ⇒ go ps (due (number ds)))
+    ∷ []) (stop 9)
+step freq ps (due n) b = first ((isLetter b ⇒ stop 21) ∷ (isDigit b ⇒ go ps (off n (b ∷ []))) ∷ []) (stop 9)
+step freq ps (off n ds) b =
+    let qs = ps ++ (pair n (number ds) ∷ []) in
+    first ((isDigit b ⇒ go ps (off n (ds ++ (b ∷ [])))) ∷ (not (isCount freq ds) ⇒ stop 9) ∷ (isLetter b ⇒ lettering qs b) ∷ (eqb b 44 ⇒ go qs spelling) ∷ [])
+    (stop 9)
+step freq ps spelling b = beginning ps b
+
+-- a code that was read: its fault, if it has one, and its pairs, if not
+pub record Reading : Type 0 where
+  pub fault : Option ℕ
+  pub pairs : List Pair
+
+abbrev pub faulty : ℕ → Reading
+faulty n = record { fault = some n; pairs = [] }
+
+abbrev pub sound : List Pair → Reading
+sound ps = record { fault = none; pairs = ps }
+
+-- the line ends: 010 "just after an on count", 009 "such as an empty code or number"
+abbrev pub ended : ℕ → List Pair → Place → Reading
+ended freq ps opening = cond (eqb (length ps) 0) (faulty 9) (sound ps)
+ended freq ps (on ds) = cond (isCount freq ds) (faulty 10) (faulty 9)
+ended freq ps (due n) = faulty 9
+ended freq ps (off n ds) = cond (isCount freq ds) (sound (ps ++ (pair n (number ds) ∷ []))) (faulty 9)
+ended freq ps spelling = faulty 9
+
+abbrev pub after : Step → (List Pair → Place → Reading) → Reading
+after (stop n) reads = faulty n
+after (go ps place) reads = reads ps place
+
+abbrev pub reads : ℕ → List Pair → Place → List ℕ → Reading
+reads freq ps place [] = ended freq ps place
+reads freq ps place (b ∷ s) = after (step freq ps place b) (λ qs q. reads freq qs q s)
+
+unfoldable pub codeIn : ℕ → List ℕ → Reading
+codeIn freq text = reads freq [] opening text

@@ -1,0 +1,1 @@
+// No code: what each call means, in specs/.

@@ -1,0 +1,15 @@
+// The small words that the meaning of a call and the hub share: a pair of counts, the fields of a command, and in specs/ what digits are.
+
+// An on count and the off count behind it, in carrier periods.
+pub struct Pair {
+    pub on: u16,
+    pub off: u16,
+}
+
+// The fields of a sendir behind its address, the repeat as capped.
+pub struct Fields {
+    pub id: u64,
+    pub freq: u64,
+    pub repeat: u64,
+    pub offset: u64,
+}

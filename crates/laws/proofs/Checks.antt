@@ -1,13 +1,31 @@
--- Laws of an order of checks.
+-- Laws of an order of checks, and of what there is or is not.
 use Prim.Native.Nat.{ℕ}
 use mathlib.Core.Path.{_≡_, refl}
-use mathlib.Core.Bool.{Bool, true}
+use mathlib.Core.Bool.{Bool, true, false}
 use mathlib.Core.List.{List, [], _∷_}
+use mathlib.Core.Option.{Option, none, some}
 use lib.Dec.{eqb}
 use borrow.Author.Tests.{eqb-true}
-use Rattle.laws.specs.Checks.{Check, first, FirstThat, holding, failing, otherwise, Each, oneOf}
+use Rattle.laws.specs.Checks.{Check, first, FirstThat, holding, failing, otherwise, isSome, oneOf}
 use Rattle.laws.specs.Lists.{all}
 use Rattle.laws.proofs.Choice.{by-test, cond-case, not-both, and-left, and-right}
+
+-- P of each answer where its test holds and none before it does, and of the other where none holds
+abbrev pub Through : {A : Type 0} → (A → Type 0) → List (Check A) → A → Type 0
+Through P [] other = P other
+Through P (k ∷ ks) other = (k .test ≡ true → P (k .gives)) × (k .test ≡ false → Through P ks other)
+
+pub through : {A : Type 0} (P : A → Type 0) (ks : List (Check A)) (other : A) → Through P ks other → P (first ks other)
+through P [] other h = h
+through P (k ∷ ks) other h = cond-case P (k .test) (k .gives) (first ks other) (h .0) (λ e. through P ks other (h .1 e))
+
+pub none-of : {A : Type 0} (o : Option A) → isSome o ≡ false → o ≡ none
+none-of none e = refl
+none-of (some x) e = not-both refl e
+
+pub some-of : {A : Type 0} (o : Option A) → isSome o ≡ true → (x : A) × (o ≡ some x)
+some-of none e = not-both e refl
+some-of (some x) e = (x, refl)
 
 -- what is taken is the answer of the first check that holds, and nothing else is
 pub first-that : {A : Type 0} (ks : List (Check A)) (other : A) → FirstThat ks other (first ks other)
@@ -19,11 +37,6 @@ pub that-first : {A : Type 0} {ks : List (Check A)} {other a : A} → FirstThat 
 that-first (holding e) = rw e
 that-first (failing e t) = rw e (that-first t)
 that-first otherwise = refl
-
--- what is shown of each answer holds of what is taken
-pub each-first : {A : Type 0} (P : A → Type 0) (ks : List (Check A)) (other : A) → Each P ks other → P (first ks other)
-each-first P [] other e = e
-each-first P (k ∷ ks) other e = cond-case P (k .test) (k .gives) (first ks other) (e .0) (λ f. each-first P ks other (e .1 f))
 
 -- ---- one of a list
 pub one-of-all : (test : ℕ → Bool) (l : List ℕ) (n : ℕ) → all test l ≡ true → oneOf l n ≡ true → test n ≡ true

@@ -25,11 +25,6 @@ pub data FirstThat {A : Type 0} : List (Check A) → A → A → Type 0 where
   failing : {k : Check A} {ks : List (Check A)} {other a : A} → k .test ≡ false → FirstThat ks other a → FirstThat (k ∷ ks) other a
   otherwise : {other : A} → FirstThat [] other other
 
--- what is to be shown of each answer where it is given: by that check, or where none holds
-abbrev pub Each : {A : Type 0} → (A → Type 0) → List (Check A) → A → Type 0
-Each P [] other = P other
-Each P (k ∷ ks) other = (k .test ≡ true → P (k .gives)) × (k .test ≡ false → Each P ks other)
-
 -- ---- tests
 
 abbrev pub between : ℕ → ℕ → ℕ → Bool

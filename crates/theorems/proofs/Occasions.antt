@@ -8,10 +8,10 @@ use native.Mathlib.Omega.{arith}
 use lib.Dec.{ltb, leb, eqb}
 use lib.ListN.{length}
 use borrow.Author.Tests.{leb-true, eqb-false, not-true, not-false, ltb-true}
-use Rattle.laws.specs.Checks.{FirstThat, Each, between, oneOf, isSome}
+use Rattle.laws.specs.Checks.{FirstThat, between, oneOf, isSome}
 use Rattle.laws.specs.Lists.{part, behind}
 use Rattle.laws.proofs.Choice.{and-left, and-right, cond-case, not-both}
-use Rattle.laws.proofs.Checks.{first-that, that-first, each-first, one-of-all}
+use Rattle.laws.proofs.Checks.{Through, through, some-of, first-that, that-first, one-of-all}
 use Rattle.words.specs.Digits.{isDigit, worth}
 use Rattle.words.specs.Decimal.{threeDigits}
 use Rattle.words.specs.Pairs.{pair}
@@ -100,11 +100,7 @@ data Fits (call : Call) : Judged → Type 0 where
   answers : {a : Answer} {deeds : List Deed} → saysError a ≡ false → Fits call (does a deeds)
 
 record Fitting (call : Call) (r : Row) : Type 0 where
-  each : Each (Fits call) (r .checks) (r .otherwise)
-
-some-of : (o : Option ℕ) → isSome o ≡ true → o ≡ some (Option·getD o 0)
-some-of none e = not-both e refl
-some-of (some n) e = refl
+  each : Through (Fits call) (r .checks) (r .otherwise)
 
 within-between : (least most : ℕ) (f : List ℕ) → within least most f ≡ true → between least most (number f) ≡ true
 unfolding within
@@ -216,8 +212,9 @@ module _ (log : List Deed) (connection room : ℕ) (s : List ℕ) where
 
   fault-listed : isSome codeFault ≡ true → oneOf addressed (Option·getD codeFault 0) ≡ true
   fault-listed e =
-      one-of-all (oneOf addressed) faultsOfCode (Option·getD codeFault 0) refl
-      (code-faults (number (field 3)) (behind 44 6 s) _ (some-of codeFault e))
+      let x = some-of codeFault e in
+      rw (x .1)
+      (one-of-all (oneOf addressed) faultsOfCode (x .0) refl (code-faults (number (field 3)) (behind 44 6 s) (x .0) (x .1)))
 
   sendir-fits : Fitting call (table.sendir log connection s)
   unfolding table.sendir
@@ -290,7 +287,7 @@ row-fits log (closing connection) = record { each = (λ e. refuses, λ e. answer
 row-fits log (waiting n) = record { each = (λ e. refuses, λ e. answers refl) }
 
 judge-fits : (log : List Deed) (call : Call) → Fits call (judge log call)
-judge-fits log call = each-first (Fits call) (rowOf log call .checks) (rowOf log call .otherwise) (row-fits log call .each)
+judge-fits log call = through (Fits call) (rowOf log call .checks) (rowOf log call .otherwise) (row-fits log call .each)
 
 -- ---- the theorems
 

@@ -1,12 +1,12 @@
 -- Laws of parts with c between them: cut at each c they are these parts again.
-use Prim.Native.Nat.{ℕ, suc, _+_}
+use Prim.Native.Nat.{ℕ, suc}
 use mathlib.Core.Path.{_≡_, refl, ap, _∙_}
-use mathlib.Core.Bool.{Bool, true, false, not}
+use mathlib.Core.Bool.{Bool, true, not}
 use mathlib.Core.List.{List, [], _∷_, _++_}
 use borrow.Author.Tests.{eq-eqb, not-true}
 use lib.Dec.{eqb}
 use lib.ListN.{length}
-use Rattle.laws.specs.Lists.{all, onto, cut, behind, joined, free}
+use Rattle.laws.specs.Lists.{all, cut, behind, joined, free}
 use Rattle.laws.proofs.Choice.{and-left, and-right, and-true}
 use Rattle.laws.proofs.Lists.{all-append}
 

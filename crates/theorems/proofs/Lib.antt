@@ -1,1 +1,2 @@
 pub mod Occasions
+pub mod Spelled

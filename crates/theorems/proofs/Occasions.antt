@@ -3,7 +3,7 @@ use Prim.Native.Nat.{ℕ, _+_, _-_, _%_, _<_}
 use mathlib.Core.Path.{_≡_, refl, sym, ap, _∙_}
 use mathlib.Core.Bool.{Bool, true, false, cond, not, _&&_}
 use mathlib.Core.List.{List, [], _∷_, _++_}
-use mathlib.Core.Option.{Option, none, some, Option·getD}
+use mathlib.Core.Option.{Option, some, Option·getD}
 use native.Mathlib.Omega.{arith}
 use lib.Dec.{ltb, leb, eqb}
 use lib.ListN.{length}
@@ -102,11 +102,11 @@ data Fits (call : Call) : Judged → Type 0 where
 record Fitting (call : Call) (r : Row) : Type 0 where
   each : Through (Fits call) (r .checks) (r .otherwise)
 
-within-between : (least most : ℕ) (f : List ℕ) → within least most f ≡ true → between least most (number f) ≡ true
+pub within-between : (least most : ℕ) (f : List ℕ) → within least most f ≡ true → between least most (number f) ≡ true
 unfolding within
 within-between least most f e = and-right (isNumber f && leb (length f) 6) _ e
 
-only : (n m : ℕ) → between n n m ≡ true → m ≡ n
+pub only : (n m : ℕ) → between n n m ≡ true → m ≡ n
 only n m e = omega (arith, leb-true n m (and-left _ _ e), leb-true m n (and-right (leb n m) _ e))
 
 module _ (log : List Deed) (connection room : ℕ) (s : List ℕ) where

@@ -1,1 +1,2 @@
 pub mod Occasion
+pub mod Spelled

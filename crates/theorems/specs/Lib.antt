@@ -1,2 +1,3 @@
 pub mod Occasion
 pub mod Spelled
+pub mod Commands

@@ -1,3 +1,5 @@
 pub mod Choice
+pub mod Checks
 pub mod Lists
+pub mod Joining
 pub mod Put

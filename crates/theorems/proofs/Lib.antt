@@ -1,0 +1,3 @@
+pub mod Occasions
+pub mod Spelled
+pub mod Commands

@@ -1,0 +1,3 @@
+pub mod Occasion
+pub mod Spelled
+pub mod Commands

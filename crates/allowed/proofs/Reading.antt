@@ -3,7 +3,7 @@ use Prim.Native.Nat.{ℕ}
 use mathlib.Core.Path.{_≡_}
 use mathlib.Core.Bool.{Bool}
 use mathlib.Core.List.{List}
-use lib.ListN.{getD, drop, length}
+use lib.ListN.{getD, drop}
 use Rattle.text.specs.declared.field.Field.{Field}
 use Rattle.text.specs.declared.number.Number.{Number}
 use Rattle.words.specs.Digits.{isDigit}
@@ -21,16 +21,11 @@ use Rattle.code.specs.Next.{isLetter, nextPair}
 use Rattle.code.specs.Read.{readCode, codeOf}
 use Rattle.code.proofs.Smallest.{one-smallest}
 use Rattle.request.specs.declared.Request.{Request}
-use Rattle.request.specs.declared.address.Address.{Address}
 use Rattle.request.specs.declared.fields.Sent.{Sent}
 use Rattle.request.specs.declared.mode.Mode.{Mode}
 use Rattle.request.specs.declared.mode.ModeRead.{ModeRead}
-use Rattle.request.specs.declared.name.Name.{Name}
-use Rattle.request.specs.declared.name.NameRead.{NameRead}
-use Rattle.request.specs.Address.{addressAt, hasModule, addressFault}
 use Rattle.request.specs.Fields.{capped, sentAt}
 use Rattle.request.specs.Mode.{modeAt, mayHave}
-use Rattle.request.specs.Name.{nameAt, nameOf}
 use Rattle.request.specs.Request.{readRequest}
 use Rattle.allowed.specs.Allowed.{One}
 use Rattle.allowed.proofs.Law.{one}
@@ -100,18 +95,6 @@ code-next-pair freq pairs letters after s at = one (nextPair freq pairs letters 
 pub code-read-code : (freq : ℕ) (s : List ℕ) (start : ℕ) → One (λ (r : Code). r ≡ codeOf (readCode freq s start))
 code-read-code freq s start = one (codeOf (readCode freq s start))
 
--- request::address::address_at
-pub request-address-at : (s : List ℕ) (at : ℕ) → One (λ (r : Address). r ≡ addressAt s at)
-request-address-at s at = one (addressAt s at)
-
--- request::address::has_module
-pub request-has-module : (name : Name) (m : ℕ) → One (λ (r : Bool). r ≡ hasModule name m)
-request-has-module name m = one (hasModule name m)
-
--- request::address::address_fault
-pub request-address-fault : (name : Name) (m port : ℕ) → One (λ (r : ℕ). r ≡ addressFault name m port)
-request-address-fault name m port = one (addressFault name m port)
-
 -- request::fields::capped
 pub request-capped : (repeat : ℕ) → One (λ (r : ℕ). r ≡ capped repeat)
 request-capped repeat = one (capped repeat)
@@ -127,14 +110,6 @@ request-mode-at s at = one (modeAt s at)
 -- request::mode::may_have
 pub request-may-have : (port : ℕ) (mode : Mode) → One (λ (r : Bool). r ≡ mayHave port mode)
 request-may-have port mode = one (mayHave port mode)
-
--- request::name::name_at
-pub request-name-at : (s : List ℕ) → One (λ (r : NameRead). r ≡ nameAt s)
-request-name-at s = one (nameAt s)
-
--- request::name::name_end
-pub request-name-end : (name : Name) → One (λ (r : ℕ). r ≡ length (nameOf name))
-request-name-end name = one (length (nameOf name))
 
 -- request::read::read_request
 pub request-read-request : (s : List ℕ) → One (λ (r : Request). r ≡ readRequest s)

@@ -1,16 +1,16 @@
 -- Laws of numbers: the loop that reads one.
-use Prim.Native.Nat.{ℕ, _+_, _*_, _^_, _≤_, _<_}
+use Prim.Native.Nat.{ℕ, _+_, _^_, _≤_, _<_}
 use mathlib.Core.Path.{_≡_, refl, sym, ap, _∙_}
 use mathlib.Core.List.{List, [], _∷_}
 use mathlib.Core.Bool.{Bool, true, false, cond}
 use native.Mathlib.Nat.{pow-succ', pow-le-pow-right}
 use native.Mathlib.Numerals.{add-one}
 use native.Mathlib.Omega.{arith}
-use borrow.Author.Tests.{ltb-true, ltb-false, leb-true, leb-false, ne-eqb, lt-ltb, le-ltb}
+use borrow.Author.Tests.{ltb-false, leb-true, leb-false, ne-eqb, lt-ltb, le-ltb}
 use lib.Dec.{ltb, leb}
 use lib.ListN.{length, drop, getD}
 use Rattle.laws.proofs.Choice.{by-test, not-both}
-use Rattle.laws.proofs.Lists.{drop-next, leading-more}
+use Rattle.laws.proofs.Lists.{leading-more}
 use Rattle.words.specs.Digits.{isDigit, worth}
 use Rattle.text.specs.declared.number.Number.the-variants.{Value}
 use Rattle.text.specs.Number.{run, numberOf, numberAt, grown, foundNumber}

@@ -71,18 +71,6 @@ code-next-pair = told _ refl (λ _ _ _ _. refl)
 pub code-read-code : One code.read.read_code.ended (λ _. code.read.read_code.spec)
 code-read-code = told _ refl (λ _ _ _ _. refl)
 
--- request::address::address_at
-pub request-address-at : One request.address.address_at.ended (λ _. request.address.address_at.spec)
-request-address-at = told _ refl (λ _ _ _ _. refl)
-
--- request::address::has_module
-pub request-has-module : One request.address.has_module.ended (λ _. request.address.has_module.spec)
-request-has-module = told _ refl (λ _ _ _ _. refl)
-
--- request::address::address_fault
-pub request-address-fault : One request.address.address_fault.ended (λ _. request.address.address_fault.spec)
-request-address-fault = told _ refl (λ _ _ _ _. refl)
-
 -- request::fields::capped
 pub request-capped : One request.fields.capped.ended (λ _. request.fields.capped.spec)
 request-capped = told _ refl (λ _ _ _ _. refl)
@@ -98,14 +86,6 @@ request-mode-at = told _ refl (λ _ _ _ _. refl)
 -- request::mode::may_have
 pub request-may-have : One request.mode.may_have.ended (λ _. request.mode.may_have.spec)
 request-may-have = told _ refl (λ _ _ _ _. refl)
-
--- request::name::name_at
-pub request-name-at : One request.name.name_at.ended (λ _. request.name.name_at.spec)
-request-name-at = told _ refl (λ _ _ _ _. refl)
-
--- request::name::name_end
-pub request-name-end : One request.name.name_end.ended (λ _. request.name.name_end.spec)
-request-name-end = told _ refl (λ _ _ _ _. refl)
 
 -- request::read::read_request
 pub request-read-request : One request.read.read_request.ended (λ _. request.read.read_request.spec)

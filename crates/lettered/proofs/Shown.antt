@@ -4,17 +4,17 @@ use mathlib.Core.Path.{_≡_, refl, sym, ap, _∙_}
 use mathlib.Core.Bool.{true, false}
 use mathlib.Core.List.{List, [], _∷_, _++_, append-assoc}
 use native.Mathlib.Omega.{arith}
-use borrow.Author.Tests.{leb-true, leb-false, eqb-true, eqb-false}
+use borrow.Author.Tests.{ltb-false, leb-true, leb-false, eqb-true, eqb-false}
 use lib.Dec.{ltb, leb, eqb}
 use lib.ListN.{length, drop, getD, drop-of-length-le}
 use lib.Seq.{drop-drop}
 use Rattle.laws.specs.Lists.{all}
-use Rattle.laws.proofs.Choice.{cond-case, by-test}
+use Rattle.laws.proofs.Choice.{cond-case}
 use Rattle.laws.proofs.Lists.{drop-next}
 use Rattle.words.specs.Digits.{isDigit, worth}
-use Rattle.text.specs.Number.{run, number, numberOf, numberAt}
+use Rattle.text.specs.Number.{run, numberOf, numberAt}
 use Rattle.text.specs.declared.number.Number.{Number}
-use Rattle.text.specs.declared.number.Number.the-variants.{Missing, Value}
+use Rattle.text.specs.declared.number.Number.the-variants.{Missing, TooLong, Value}
 use Rattle.code.specs.declared.next.Count.{Count}
 use Rattle.code.specs.declared.next.Count.the-variants.{Bad, Good}
 use Rattle.code.specs.declared.next.Next.{Next}
@@ -23,7 +23,6 @@ use Rattle.code.specs.declared.next.After.{After}
 use Rattle.code.specs.declared.next.After.the-variants.{Nothing, Spelling, Lettering}
 use Rattle.code.specs.Limits.{legal}
 use Rattle.code.specs.Next.{isLetter, judged, countAt, paired, offAt, afterOn, counted, spelledAt, letterAt, begunAt, begins, atEnd, nextPair}
-use Rattle.code.proofs.Smallest.{legal-is}
 use Rattle.code.proofs.Nexts.{letter-low}
 use Rattle.lettered.specs.Lettered.{Spells, spelled, itemText}
 use Rattle.lettered.proofs.Written.{front}
@@ -71,32 +70,23 @@ ShownCount s at Bad = Unit {0}
 ShownCount s at (Good v next) = Digits s at v next
 
 module _ (freq : ℕ) (s : List ℕ) where
-  -- more than six digits are no legal count
-  within-six : (ds : List ℕ) → legal freq (number ds) ≡ true → (length ds ≤ 6) × (number ds ≡ worth 0 ds)
-  unfolding number
-  within-six ds h =
-      by-test (leb (length ds) 6)
-      (λ e. (leb-true (length ds) 6 e, rw e))
-      (λ e.
-      let l : legal freq 1000000 ≡ true = rw e at h in
-      absurd (omega (arith, legal-is {freq = freq} {count = 1000000} l .high)))
-
   count-shown : (at : ℕ) → ShownCount s at (countAt freq s at)
   unfolding countAt numberAt numberOf
   count-shown at =
       let ds = run (drop at s) in
       let next = at + length ds in
-      cond-case (λ (x : Number). ShownCount s at (judged freq x)) (eqb (length ds) 0) Missing (Value (number ds) next) (λ e. tt)
-      (λ e. cond-case (ShownCount s at) (legal freq (number ds)) (Good (number ds) next) Bad
+      let P : Number → Type 0 = λ x. ShownCount s at (judged freq x) in
+      cond-case P (eqb (length ds) 0) Missing _ (λ e. tt)
+      (λ e. cond-case P (ltb 6 (length ds)) (TooLong next) (Value (worth 0 ds) next) (λ m. tt)
+      (λ m. cond-case (ShownCount s at) (legal freq (worth 0 ds)) (Good (worth 0 ds) next) Bad
       (λ l.
-      let six = within-six ds l in
       let ne : length ds ≡ 0 → ⊥ = eqb-false (length ds) 0 e in
       record {
         digits = ds;
-        spells = record { some = omega arith; few = six .0; decimal = run-digits (drop at s); value = sym (six .1) };
+        spells = record { some = omega arith; few = ltb-false 6 (length ds) m; decimal = run-digits (drop at s); value = refl };
         text = run-rest (drop at s) ∙ ap (λ (x : List ℕ). ds ++ x) (drop-drop (length ds) at s);
       })
-      (λ l. tt))
+      (λ l. tt)))
 
   comma-shown : (at : ℕ) → leb (length s) at ≡ false → eqb (getD s at 0) 44 ≡ true → drop at s ≡ 44 ∷ drop (at + 1) s
   comma-shown at e g =

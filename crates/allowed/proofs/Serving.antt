@@ -5,7 +5,8 @@ use mathlib.Core.Bool.{Bool, cond}
 use mathlib.Core.List.{List}
 use lib.Dec.{ltb}
 use lib.ListN.{length}
-use lib.Seq.{sets}
+use Rattle.laws.specs.Put.{over}
+use Rattle.pace.specs.declared.Micros.{Micros}
 use Rattle.connector.specs.declared.Completion.{Completion}
 use Rattle.hub.specs.declared.Answered.{Answered}
 use Rattle.hub.specs.declared.Decided.{Decided}
@@ -26,15 +27,15 @@ hub-fresh = one freshHub
 
 writes : (d : Decided) (before : List ℕ) → One (λ (o : Answered × List ℕ). Writes d before (o .0) (o .1))
 writes d before a b p q =
-    one-and (answeredOf d) (sets before 0 (bytesOf (d .answer))) a b (p .result, p .laid) (q .result, q .laid)
+    one-and (answeredOf d) (over before 0 (bytesOf (d .answer))) a b (p .result, p .laid) (q .result, q .laid)
 
 -- hub::line::line
-pub hub-line : (hub : Hub) (store : List ℕ) (connection : ℕ) (text before : List ℕ)
+pub hub-line : (hub : Hub) (store : List ℕ) (connection : ℕ) (text before : List ℕ) → length store ≡ 1560
     → One (λ (o : (Answered × List ℕ) × List ℕ).
-    Answers (lineStep hub store connection text (length before)) before (o .0 .0) (o .1) (o .0 .1))
-hub-line hub store connection text before a b p q =
+    Answers (lineStep hub store connection text (length before)) store before (o .0 .0) (o .1) (o .0 .1))
+hub-line hub store connection text before size a b p q =
     let step = lineStep hub store connection text (length before) in
-    λ i. (writes (step .decided) before (a .0) (b .0) (p .writes) (q .writes) i, one (step .store) (a .1) (b .1) (p .kept) (q .kept) i)
+    λ i. (writes (step .decided) before (a .0) (b .0) (p .writes) (q .writes) i, one (step .store) (a .1) (b .1) (p .kept size) (q .kept size) i)
 
 -- hub::line::overlong_line
 pub hub-overlong-line : (hub : Hub) (connection : ℕ) (before : List ℕ)
@@ -58,8 +59,8 @@ pub hub-write-completion : (c : Completion) (before : List ℕ)
     → One (λ (o : Written × List ℕ). CompletionWritten c before (o .0) (o .1))
 hub-write-completion c before a b p q =
     one-and (cond (ltb (length before) 128) (Refused 101) (Line (length (completionText c))))
-    (cond (ltb (length before) 128) before (sets before 0 (completionText c))) a b (p .result, p .laid) (q .result, q .laid)
+    (cond (ltb (length before) 128) before (over before 0 (completionText c))) a b (p .result, p .laid) (q .result, q .laid)
 
 -- hub::wait::wait
-pub hub-wait : (hub : Hub) (n : ℕ) → One (λ (r : Waited). r ≡ waitedStep hub n)
-hub-wait hub n = one (waitedStep hub n)
+pub hub-wait : (hub : Hub) (n : Micros) → One (λ (r : Waited). r ≡ waitedStep hub (n .0))
+hub-wait hub n = one (waitedStep hub (n .0))

@@ -3,8 +3,8 @@ use Prim.Native.Nat.{ℕ, _*_}
 use mathlib.Core.Path.{_≡_}
 use mathlib.Core.Bool.{Bool, true}
 use mathlib.Core.List.{List, []}
-use lib.ListN.{take, drop}
-use lib.Seq.{sets}
+use lib.ListN.{length, take, drop}
+use Rattle.laws.specs.Put.{over}
 use Rattle.words.specs.declared.Pair.{Pair}
 use Rattle.words.specs.declared.Fields.{Fields}
 use Rattle.request.specs.declared.mode.Mode.{Mode}
@@ -63,9 +63,9 @@ pub pace-passed : (self : Pace) (freq : ℕ) (wait : Micros) → One (λ (r : Pa
 pace-passed self freq wait = one (pace.passed self freq (wait .0))
 
 -- store::keep
-pub store-keep : (before : List ℕ) (slot : ℕ) (pairs : List Pair) (count : ℕ)
-    → One (λ (after : List ℕ). after ≡ sets before (slot * 520) (countsOf (take count pairs)))
-store-keep before slot pairs count = one (sets before (slot * 520) (countsOf (take count pairs)))
+pub store-keep : (before : List ℕ) (slot : ℕ) (pairs : List Pair) (count : ℕ) → length before ≡ 1560
+    → One (λ (after : List ℕ). length before ≡ 1560 → after ≡ over before (slot * 520) (countsOf (take count pairs)))
+store-keep before slot pairs count size a b p q = one (over before (slot * 520) (countsOf (take count pairs))) a b (p size) (q size)
 
 -- store::same
 pub store-same : (store : List ℕ) (slot : ℕ) (pairs : List Pair) (count : ℕ)

@@ -1,21 +1,13 @@
 -- text, writer, reply and lines: what is written into lent memory. An outcome is the result and the memory after it.
 use Prim.Native.Nat.{ℕ, _+_}
 use mathlib.Core.Path.{_≡_}
-use mathlib.Core.Bool.{Bool}
 use mathlib.Core.List.{List}
-use lib.ListN.{length, take}
-use lib.Seq.{sets}
-use Rattle.laws.specs.Put.{Put}
+use lib.ListN.{length}
+use Rattle.laws.specs.Put.{over, Put}
 use Rattle.words.specs.Decimal.{decimal}
-use Rattle.words.specs.declared.Pair.{Pair}
-use Rattle.code.specs.declared.Code.{Code}
-use Rattle.code.specs.Read.{codeOf}
-use Rattle.words.specs.declared.Fields.{Fields}
 use Rattle.writer.specs.declared.Form.{Form}
 use Rattle.writer.specs.declared.sendir.Command.{Command}
 use Rattle.writer.specs.declared.sendir.Written.{Written}
-use Rattle.writer.specs.CodeText.{codeText}
-use Rattle.writer.specs.Given.{addressWithin, fieldsWithin, countsGiven}
 use Rattle.writer.specs.Sendir.{outcome, answerOf, bytesOf, Wrote}
 use Rattle.reply.specs.declared.Reply.{Reply}
 use Rattle.reply.specs.Reply.{replyText}
@@ -28,7 +20,7 @@ use Rattle.allowed.proofs.Law.{one, one-and}
 -- text laid over a buffer, with the place behind it
 put : (before : List ℕ) (at : ℕ) (text : List ℕ) → One (λ (o : ℕ × List ℕ). Put before at text (o .1) (o .0))
 put before at text a b p q =
-    one-and (at + length text) (sets before at text) a b (p .place, p .laid) (q .place, q .laid)
+    one-and (at + length text) (over before at text) a b (p .place, p .laid) (q .place, q .laid)
 
 -- text::write::put_word
 pub text-put-word : (before : List ℕ) (at : ℕ) (w : List ℕ) → One (λ (o : ℕ × List ℕ). Put before at w (o .1) (o .0))
@@ -38,29 +30,12 @@ text-put-word before at w = put before at w
 pub text-put-number : (before : List ℕ) (at n : ℕ) → One (λ (o : ℕ × List ℕ). Put before at (decimal n) (o .1) (o .0))
 text-put-number before at n = put before at (decimal n)
 
--- writer::codetext::put_code
-pub writer-put-code : (before : List ℕ) (at : ℕ) (form : Form) (count : ℕ) (pairs : List Pair)
-    → One (λ (o : ℕ × List ℕ). Put before at (codeText form (take count pairs)) (o .1) (o .0))
-writer-put-code before at form count pairs = put before at (codeText form (take count pairs))
-
--- writer::given::address_within
-pub writer-address-within : (m port : ℕ) → One (λ (r : Bool). r ≡ addressWithin m port)
-writer-address-within m port = one (addressWithin m port)
-
--- writer::given::fields_within
-pub writer-fields-within : (f : Fields) → One (λ (r : Bool). r ≡ fieldsWithin f)
-writer-fields-within f = one (fieldsWithin f)
-
--- writer::given::counts_given
-pub writer-counts-given : (freq : ℕ) (counts : List ℕ) → One (λ (r : Code). r ≡ codeOf (countsGiven freq counts))
-writer-counts-given freq counts = one (codeOf (countsGiven freq counts))
-
 -- writer::sendir::write_sendir
 pub writer-write-sendir : (before : List ℕ) (form : Form) (c : Command) (counts : List ℕ)
     → One (λ (o : Written × List ℕ). Wrote before form c counts (o .1) (o .0))
 writer-write-sendir before form c counts a b p q =
     let said = outcome (length before) form c counts in
-    one-and (answerOf said) (sets before 0 (bytesOf said)) a b (p .answer, p .laid) (q .answer, q .laid)
+    one-and (answerOf said) (over before 0 (bytesOf said)) a b (p .answer, p .laid) (q .answer, q .laid)
 
 -- reply::put_reply
 pub reply-put-reply : (before : List ℕ) (reply : Reply) → One (λ (o : ℕ × List ℕ). Put before 0 (replyText reply) (o .1) (o .0))

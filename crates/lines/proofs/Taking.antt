@@ -84,12 +84,12 @@ pub from-start : (a : Assembler) (buffer piece : List ℕ) → length buffer ≡
     → takeStep a buffer piece ≡ stepFrom 0 (a .size) buffer piece
 unfolding takeStep stepFrom
 from-start a buffer piece h = rw (
-      eq-eqb (length buffer) 4096 h,
-      zero-add,
-      zero-add,
-      ← stores-stored buffer (a .size) (untilCr piece),
-      ← stores-stored buffer (a .size) piece,
-    )
+  eq-eqb (length buffer) 4096 h,
+  zero-add,
+  zero-add,
+  ← stores-stored buffer (a .size) (untilCr piece),
+  ← stores-stored buffer (a .size) piece,
+)
 
 -- the bytes behind one more
 sets-counted : (vs buffer : List ℕ) (size b : ℕ) → length buffer ≡ 4096

@@ -29,7 +29,7 @@ pub record Step : Type 0 where
   pub decided : Decided
   pub store : List ℕ
 
--- that it was decided so; the store, as it was and as it is, has the length of its type
+-- that it was decided so; the store, of the length of its type, as it was and as it is
 pub record Decides (step : Step) (store : List ℕ) (r : Decided) (store₁ : List ℕ) : Type 0 where
   pub result : r ≡ step .decided
   pub kept : length store ≡ 1560 → store₁ ≡ step .store

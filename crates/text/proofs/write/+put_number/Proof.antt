@@ -1,13 +1,10 @@
-use lib.ListN.{length, set, length-set, length-append}
-use lib.Seq.{sets, length-sets}
-use mathlib.Core.List.{[], _∷_}
+use lib.ListN.{length, length-set}
 use Rattle.laws.proofs.Put.{byte}
 use Rattle.text.proofs.Decimals.{decimal-small, decimal-longer, put-last}
-use denote.Ref.{now}
-use mathlib.Core.Path.{_≡_, refl, sym, ap, _∙_}
+use mathlib.Core.Path.{ap}
 use native.Mathlib.Omega.{arith}
 use borrow.Author.Needs.{needs}
-use Prim.Native.Nat.{ℕ, _<_, _+_, _/_, _%_}
+use Prim.Native.Nat.{ℕ, _<_}
 use borrow.Fn.Kinds.{In}
 use borrow.Fn.PlainCycle.{Measures, is, falls, and}
 use Rattle.text.proofs.write.put_number.Reads as put-number

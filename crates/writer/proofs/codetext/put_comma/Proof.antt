@@ -1,7 +1,4 @@
-use Prim.Native.Nat.{_+_}
-use mathlib.Core.Path.{refl, sym}
 use native.Mathlib.Omega.{arith}
-use lib.ListN.{length-set}
 use Rattle.laws.proofs.Put.{nothing, byte}
 use borrow.Author.Needs.{needs}
 use Rattle.writer.proofs.codetext.put_comma.Statement.{statement}

@@ -15,22 +15,6 @@ text-put-word = promised _ refl (λ _ _ _ _ _ _ p q. (p .place ∙ sym (q .place
 pub text-put-number : One text.write.put_number.ended (λ _. text.write.put_number.spec)
 text-put-number = promised _ refl (λ _ _ _ _ _ _ p q. (p .place ∙ sym (q .place), both (p .laid ∙ sym (q .laid)) refl))
 
--- writer::codetext::put_code
-pub writer-put-code : One writer.codetext.put_code.ended (λ _. writer.codetext.put_code.spec)
-writer-put-code = promised _ refl (λ _ _ _ _ _ _ p q. (p .place ∙ sym (q .place), both (p .laid ∙ sym (q .laid)) refl))
-
--- writer::given::address_within
-pub writer-address-within : One writer.given.address_within.ended (λ _. writer.given.address_within.spec)
-writer-address-within = told _ refl (λ _ _ _ _. refl)
-
--- writer::given::fields_within
-pub writer-fields-within : One writer.given.fields_within.ended (λ _. writer.given.fields_within.spec)
-writer-fields-within = told _ refl (λ _ _ _ _. refl)
-
--- writer::given::counts_given
-pub writer-counts-given : One writer.given.counts_given.ended (λ _. writer.given.counts_given.spec)
-writer-counts-given = told _ refl (λ _ _ _ _. refl)
-
 -- writer::sendir::write_sendir
 pub writer-write-sendir : One writer.sendir.write_sendir.ended (λ _. writer.sendir.write_sendir.spec)
 writer-write-sendir = promised _ refl (λ _ _ _ _ _ _ p q. (p .answer ∙ sym (q .answer), both (p .laid ∙ sym (q .laid)) refl))

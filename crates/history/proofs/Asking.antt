@@ -7,7 +7,7 @@ use mathlib.Core.Option.{Option, none, some}
 use native.Mathlib.Omega.{arith}
 use lib.Dec.{eqb}
 use lib.ListN.{length}
-use lib.Seq.{sets, length-sets}
+use Rattle.laws.specs.Put.{over}
 use borrow.Author.Tests.{ltb-true}
 use Rattle.laws.proofs.Choice.{by-test, cond-case}
 use Rattle.words.specs.declared.Pair.{Pair}
@@ -23,7 +23,7 @@ use Rattle.request.specs.declared.Request.the-variants as request
 use Rattle.request.specs.Accepted.{PortWithin, FieldsWithin, SentWithin, Within}
 use Rattle.reply.specs.declared.Reply.the-variants as reply
 use Rattle.meaning.specs.Time.{countsOf, Transmission, started, renewed}
-use Rattle.store.proofs.Kept.{kept, others-kept}
+use Rattle.store.proofs.Kept.{kept-size, kept, others-kept}
 use Rattle.waveform.proofs.Paced.{Fit, started-runs, renewed-runs}
 use Rattle.connector.specs.declared.Owner.the-variants.{Nobody, Connection}
 use Rattle.connector.specs.declared.Contact.{Contact}
@@ -146,12 +146,12 @@ module _ (h : List Call) (store : List ℕ) (st : Stored store (clock h) (known 
     abbrev After : Answer → Step → Type 0
     After a step = Means (clock h) a (changedAt (clock h) (known h) (relay h) g port) (relay h) step
 
-    here : HeldIn (sets store ((port - 1) * 520) (countsOf ps)) (port - 1) (some (started f ps (clock h)))
+    here : HeldIn (over store ((port - 1) * 520) (countsOf ps)) (port - 1) (some (started f ps (clock h)))
     unfolding started
     here = kept store (port - 1) ps (omega (arith, w .least, w .most)) (st .size) (l .counts .most)
 
     other-held : (p : ℕ) → PortWithin p → (p ≡ port → ⊥) → (o : Option Transmission) → FitFor (clock h) o
-        → HeldIn store (p - 1) o → HeldIn (sets store ((port - 1) * 520) (countsOf ps)) (p - 1) o
+        → HeldIn store (p - 1) o → HeldIn (over store ((port - 1) * 520) (countsOf ps)) (p - 1) o
     other-held p v d none q k = tt
     other-held p v d (some s) q k =
         others-kept store (port - 1) ps (omega (arith, w .least, w .most)) (st .size) (l .counts .most) (p - 1)
@@ -159,7 +159,7 @@ module _ (h : List Call) (store : List ℕ) (st : Stored store (clock h) (known 
         ∙ k
 
     others : (p : ℕ) → PortWithin p → (p ≡ port → ⊥)
-        → HeldIn (sets store ((port - 1) * 520) (countsOf ps)) (p - 1) (onAir (clock h) (known h p .sending))
+        → HeldIn (over store ((port - 1) * 520) (countsOf ps)) (p - 1) (onAir (clock h) (known h p .sending))
     others p v d =
         other-held p v d (onAir (clock h) (known h p .sending))
         (fit-on-air (clock h) (known h p .sending) (known-fit h p)) (st .held p v)
@@ -170,7 +170,7 @@ module _ (h : List Call) (store : List ℕ) (st : Stored store (clock h) (known 
         (record {
           decided = decidedAs answer.Taken
               (withConnector hub (port - 1) (change.started (shown (clock h) x) connection (runOf f ps)));
-          store = sets store ((port - 1) * 520) (countsOf ps);
+          store = over store ((port - 1) * 520) (countsOf ps);
         })
     starts e =
         record {
@@ -178,8 +178,8 @@ module _ (h : List Call) (store : List ℕ) (st : Stored store (clock h) (known 
           hub = put-hub (clock h) (known h) (relay h) g port w _
               (rw e (sym (started-shown (clock h) connection x f ps (l .fields) (l .counts) (l .offset))));
           stored = record {
-            size = length-sets store ((port - 1) * 520) (countsOf ps) ∙ st .size;
-            held = changed-held (clock h) (known h) (relay h) g (sets store ((port - 1) * 520) (countsOf ps)) port
+            size = kept-size store (port - 1) ps (omega (arith, w .least, w .most)) (st .size) (l .counts .most);
+            held = changed-held (clock h) (known h) (relay h) g (over store ((port - 1) * 520) (countsOf ps)) port
                 (rw (e, started-runs f ps (clock h) (l .fields) (l .counts) (l .offset)) here)
                 others;
           };

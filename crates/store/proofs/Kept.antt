@@ -8,7 +8,9 @@ use lib.ListN.{length, getD, set, length-set}
 use lib.Seq.{sets, getD-set-same, getD-set-other}
 use lib.Dec.{eqb, ltb}
 use borrow.Author.Tests.{eq-eqb, eqb-true, ltb-true, ltb-false}
+use Rattle.laws.specs.Put.{over}
 use Rattle.laws.proofs.Choice.{by-test, not-both}
+use Rattle.laws.proofs.Put.{stores-over, over-length}
 use Rattle.words.specs.declared.Pair.{Pair}
 use Rattle.meaning.specs.Time.{countsOf}
 use Rattle.store.specs.Store.{numbers, slotCounts, alike}
@@ -39,7 +41,7 @@ counts-same (p ∷ ps) (q ∷ qs) e =
     let rest : ps ≡ qs = counts-same ps qs (cc) in
     cc
 
-counts-length : (ps : List Pair) → length (countsOf ps) ≡ 2 * length ps
+pub counts-length : (ps : List Pair) → length (countsOf ps) ≡ 2 * length ps
 counts-length [] = refl
 counts-length (p ∷ ps) = omega (arith, counts-length ps)
 
@@ -69,17 +71,23 @@ numbers-back (v ∷ vs) l i h =
     rw (before-sets vs (set l i v) (suc i) i (omega arith), getD-set-same l i v 0 k, numbers-back vs (set l i v) (suc i) w)
 
 module _ (store : List ℕ) (slot : ℕ) (ps : List Pair) (h : slot < 3) (size : length store ≡ 1560) (few : length ps ≤ 260) where
-  pub kept : slotCounts (sets store (slot * 520) (countsOf ps)) slot (length ps) ≡ countsOf ps
+  room : slot * 520 + length (countsOf ps) ≤ length store
+  room = omega (arith, counts-length ps)
+
+  pub kept-size : length (over store (slot * 520) (countsOf ps)) ≡ 1560
+  kept-size = over-length store (slot * 520) (countsOf ps) room ∙ size
+
+  pub kept : slotCounts (over store (slot * 520) (countsOf ps)) slot (length ps) ≡ countsOf ps
   unfolding slotCounts
   kept =
-      rw (← counts-length ps) (numbers-back (countsOf ps) store (slot * 520) (omega (arith, counts-length ps)))
+      rw (← counts-length ps, ← stores-over (countsOf ps) store (slot * 520) room) (numbers-back (countsOf ps) store (slot * 520) room)
 
   pub others-kept : (other : ℕ) → other < 3 → (other ≡ slot → ⊥) → (count : ℕ) → count ≤ 260
-      → slotCounts (sets store (slot * 520) (countsOf ps)) other count ≡ slotCounts store other count
+      → slotCounts (over store (slot * 520) (countsOf ps)) other count ≡ slotCounts store other count
   unfolding slotCounts
   others-kept other g differ count most =
-      by-test (ltb other slot)
+      rw (← stores-over (countsOf ps) store (slot * 520) room) (by-test (ltb other slot)
       (λ e. numbers-before (2 * count) (other * 520) (countsOf ps) store (slot * 520) (omega (arith, ltb-true other slot e)))
       (λ e.
       let l = ltb-false other slot e in
-      numbers-behind (2 * count) (other * 520) (countsOf ps) store (slot * 520) (omega (arith, counts-length ps)))
+      numbers-behind (2 * count) (other * 520) (countsOf ps) store (slot * 520) (omega (arith, counts-length ps))))

@@ -1,5 +1,6 @@
 // The carriers of a fresh hub some microseconds after a sendir to connector 1.
 use hub::Hub;
+use pace::Micros;
 
 fn say_carrier(on: bool) {
     if on {
@@ -15,7 +16,7 @@ fn carrier_vector(line: &[u8], micros: u64, expected: bool) {
     let mut reply = [0u8; 128];
     let answered = hub::line::line(Hub::fresh(), &mut store, 0, line, &mut reply);
     let decided = answered.decided;
-    let waited = hub::wait::wait(decided.hub, micros);
+    let waited = hub::wait::wait(decided.hub, Micros(micros));
     let after = waited.decided;
     let carriers = hub::calls::carriers(after.hub, &store);
     let got = carriers[0];

@@ -5,6 +5,7 @@ use code::limits::Smallest;
 use hub::Answer;
 use hub::Hub;
 use libc::STDOUT_FILENO;
+use pace::Micros;
 use request::Request;
 use words::Fields;
 use writer::Form;
@@ -318,7 +319,7 @@ fn limits() {
 
 // A wait of a fresh hub: its refusal, 0 where it is taken.
 fn wait_vector(micros: u64, expected: u64) {
-    let waited = hub::wait::wait(Hub::fresh(), micros);
+    let waited = hub::wait::wait(Hub::fresh(), Micros(micros));
     let decided = waited.decided;
     let answer = decided.answer;
     let got = match answer {

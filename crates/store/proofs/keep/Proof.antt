@@ -3,8 +3,10 @@ use mathlib.Core.Path.{_≡_, refl, sym, _∙_}
 use native.Mathlib.Nat.{add-zero}
 use native.Mathlib.Omega.{arith}
 use lib.ListN.{length, take}
-use lib.Seq.{sets, slice-empty}
+use lib.Seq.{sets, slice-empty, length-take-le}
+use Rattle.laws.proofs.Put.{stores-over}
 use Rattle.meaning.specs.Time.{countsOf}
+use Rattle.store.proofs.Kept.{counts-length}
 use Rattle.store.proofs.Turns.{filled, fill}
 use Rattle.store.proofs.keep.Statement.{statement}
 use Rattle.store.proofs.keep.Tie as tie
@@ -63,9 +65,11 @@ loop-again c =
     (search needs, search needs, c .before .before .loop .inv .2 ∙ fill _ _ _ _ _ (c .before .loop-test .taken) k)
 
 returns : tie.Need-returns Inv-loop μ-loop
-returns c =
+returns c size =
     let e : c .before .loop .i ≡ c .before .before .args .count = omega arith in
-    sym (c .before .loop .inv .2 ∙ rw (e, slice-empty))
+    let pairs = take (c .before .before .args .count) (c .before .before .args .t3) in
+    let many : length pairs ≡ c .before .before .args .count = length-take-le _ _ (search needs) in
+    sym (c .before .loop .inv .2 ∙ rw (e, slice-empty)) ∙ stores-over _ _ _ (omega (arith, counts-length pairs))
 
 pub keep-spec : {M : Type 1} → statement M
 keep-spec =

@@ -2,4 +2,5 @@ pub mod Choice
 pub mod Checks
 pub mod Lists
 pub mod Joining
+pub mod Cutting
 pub mod Put

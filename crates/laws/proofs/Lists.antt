@@ -1,5 +1,5 @@
 -- Laws of lists that the library lacks.
-use Prim.Native.Nat.{ℕ, zero, suc, _+_, _-_, _≤_, _<_}
+use Prim.Native.Nat.{ℕ, zero, suc, _+_, _≤_, _<_}
 use mathlib.Core.Path.{_≡_, refl, sym, ap, _∙_}
 use mathlib.Core.List.{List, [], _∷_, _++_}
 use mathlib.Core.Bool.{Bool, true, false}
@@ -80,6 +80,27 @@ all-weaker p q f [] e = refl
 all-weaker p q f (b ∷ l) e =
     and-true (q b) (all q l) (f b (and-left (p b) (all p l) e)) (all-weaker p q f l (and-right (p b) (all p l) e))
 
+-- two tests that agree
+pub all-alike : {A : Type 0} (p q : A → Bool) → ((b : A) → p b ≡ q b) → (l : List A) → all p l ≡ all q l
+all-alike p q f [] = refl
+all-alike p q f (b ∷ l) = rw (f b, all-alike p q f l)
+
+-- ---- lists that are the same numbers
+pub same-is : (w l : List ℕ) → same w l ≡ true → w ≡ l
+same-is [] [] e = refl
+same-is [] (b ∷ l) e = not-both e refl
+same-is (a ∷ w) [] e = not-both e refl
+same-is (a ∷ w) (b ∷ l) e =
+    rw (eqb-true b a (and-left (eqb b a) (same w l) e), same-is w l (and-right (eqb b a) (same w l) e))
+
+pub same-self : (a : List ℕ) → same a a ≡ true
+same-self [] = refl
+same-self (a ∷ w) = and-true (eqb a a) (same w w) (eq-eqb a a refl) (same-self w)
+
+pub none-is : {A : Type 0} (l : List A) → length l ≡ 0 → l ≡ []
+none-is [] e = refl
+none-is (b ∷ l) e = absurd (omega arith)
+
 -- ---- stores one after the other
 pub sets-append : {A : Type 0} (vs ws l : List A) (i : ℕ) → sets l i (vs ++ ws) ≡ sets (sets l i vs) (i + length vs) ws
 sets-append [] ws l i = rw add-zero
@@ -99,17 +120,3 @@ module _ {A : Type 0} (s : List A) (at : ℕ) where
 
   pub stands-behind : (xs rest : List A) → drop at s ≡ xs ++ rest → drop (at + length xs) s ≡ rest
   stands-behind xs rest e = sym (drop-drop (length xs) at s) ∙ ap (drop (length xs)) e ∙ drop-append-seam xs rest
-
--- ---- lists that are the same
-pub same-is : (a b : List ℕ) → same a b ≡ true → a ≡ b
-same-is [] [] e = refl
-same-is [] (b ∷ s) e = not-both e refl
-same-is (a ∷ w) [] e = not-both e refl
-same-is (a ∷ w) (b ∷ s) e =
-    let h : a ≡ b = sym (eqb-true b a (and-left (eqb b a) (same w s) e)) in
-    let t : w ≡ s = same-is w s (and-right (eqb b a) (same w s) e) in
-    cc
-
-pub same-self : (a : List ℕ) → same a a ≡ true
-same-self [] = refl
-same-self (a ∷ w) = and-true (eqb a a) (same w w) (eq-eqb a a refl) (same-self w)

@@ -14,10 +14,6 @@ use Rattle.allowed.proofs.Law.{one, one-and}
 pub reader-fresh : (freq : ℕ) → One (λ (r : Progress). r ≡ freshProgress freq)
 reader-fresh freq = one (freshProgress freq)
 
--- reader::next_from
-pub reader-next-from : (progress : Progress) (s : List ℕ) (at : ℕ) → One (λ (r : Handed). r ≡ handed progress s at)
-reader-next-from progress s at = one (handed progress s at)
-
 -- reader::hand_out
 pub reader-hand-out : (progress : Progress) (s : List ℕ) (at : ℕ) → One (λ (r : Handed). r ≡ handed progress s at)
 reader-hand-out progress s at = one (handed progress s at)

@@ -17,9 +17,9 @@ use Rattle.code.specs.Next.{nextPair}
 use Rattle.code.specs.Read.{Reading, pairs, fault, onward, readFrom, readCode}
 use Rattle.reader.specs.declared.Progress.{Progress}
 use Rattle.reader.specs.declared.Handed.{Handed}
-use Rattle.reader.specs.Hands.{SoundProgress, freshProgress, onePairOn, pairHanded, handed}
+use Rattle.reader.specs.Hands.{freshProgress, onePairOn, pairHanded, handed}
 use Rattle.reader.specs.Hands.{Ending, end, faulted, HandsOut, ends, faults, gives, readingOf}
-use Rattle.reader.proofs.Pieces.{standing, standing-sound, handed-is, learnt-kept, fresh-sound, counted, handed-sound}
+use Rattle.reader.proofs.Pieces.{SoundProgress, standing, standing-sound, handed-is, learnt-kept, fresh-sound, counted, handed-sound}
 
 -- a run of a text that agrees with the reading x, which has the pairs ps already
 record Ran (s : List ℕ) (t : Progress) (at : ℕ) (ps : List Pair) (x : Reading) : Type 0 where

@@ -1,4 +1,4 @@
--- Laws of one piece: what stands next decides it, and a sound progress stays sound.
+-- Laws of one piece: what stands next decides it, and the letters are kept.
 use Prim.Native.Nat.{ℕ, _+_, _≤_, _<_}
 use mathlib.Core.Path.{_≡_, refl, ap, _∙_, subst}
 use mathlib.Core.List.{List, [], _∷_}
@@ -6,13 +6,12 @@ use native.Mathlib.Omega.{arith}
 use borrow.Author.Tests.{lt-ltb, ltb-true, ltb-false}
 use lib.Dec.{ltb}
 use lib.ListN.{length, length-take, length-set}
-use lib.Seq.{length-take-le}
 use Rattle.laws.proofs.Choice.{by-test, cond-case}
 use Rattle.words.specs.declared.Pair.{Pair}
 use Rattle.code.specs.declared.letters.Letters.{Letters}
 use Rattle.code.specs.declared.next.Next.{Next}
 use Rattle.code.specs.declared.next.Next.the-variants.{End, Spelled, Letter, Fault}
-use Rattle.words.specs.Pairs.{pair, samePair}
+use Rattle.words.specs.Pairs.{samePair}
 use Rattle.code.specs.Letters.{placeOf, learnt, held, Kept, learntLetters}
 use Rattle.code.specs.Next.{nextPair}
 use Rattle.code.proofs.Lettering.{learn-known, learn-full, learn-new}
@@ -20,7 +19,7 @@ use Rattle.code.proofs.Nexts.{Sound, next-sound}
 use Rattle.reader.specs.declared.Progress.{Progress}
 use Rattle.reader.specs.declared.Handed.{Handed}
 use Rattle.reader.specs.declared.Piece.the-variants as piece
-use Rattle.reader.specs.Hands.{freshProgress, handedOf, handed}
+use Rattle.reader.specs.Hands.{handedOf, handed}
 
 -- what stands at a place, behind what was read
 abbrev pub standing : Progress → List ℕ → ℕ → Next
@@ -59,37 +58,12 @@ module _ (t : Letters) (p : Pair) (few : t .count ≤ 15) (long : length (t .pai
       (λ f. learn-new t p long few (ltb-false (placeOf p (held t)) (t .count) e) (ltb-true (t .count) 15 f))
       (λ f. learn-full t p long few (ltb-false (placeOf p (held t)) (t .count) e) (ltb-false (t .count) 15 f)))
 
-  learnt-long : length (learntLetters t p .pairs) ≡ 15
+  pub learnt-long : length (learntLetters t p .pairs) ≡ 15
   unfolding learntLetters
   learnt-long =
       cond-case (λ (x : Letters). length (x .pairs) ≡ 15) (ltb (placeOf p (held t)) (t .count)) _ _ (λ e. long)
       (λ e. cond-case (λ (x : Letters). length (x .pairs) ≡ 15) (ltb (t .count) 15) _ t
       (λ f. length-set (t .pairs) (t .count) p ∙ long) (λ f. long))
-
--- ---- what a fresh progress has and every piece keeps
-pub record SoundProgress (t : Progress) : Type 0 where
-  pub few : t .letters .count ≤ 15
-  pub long : length (t .letters .pairs) ≡ 15
-
-pub fresh-sound : (freq : ℕ) → SoundProgress (freshProgress freq)
-fresh-sound freq = record { few = omega arith; long = refl }
-
-pub counted : {t : Progress} → SoundProgress t → length (held (t .letters)) ≡ t .letters .count
-counted {t} h = length-take-le (t .letters .count) (t .letters .pairs) (omega (arith, h .few, h .long))
-
-module _ {t : Progress} (s : List ℕ) (at : ℕ) (h : SoundProgress t) where
-  of-sound : (x : Next) → SoundProgress (handedOf t at x .progress)
-  of-sound End = h
-  of-sound (Fault number) = h
-  of-sound (Letter i next) = record { few = h .few; long = h .long }
-  of-sound (Spelled on off next) =
-      record {
-        few = learnt-kept (t .letters) (pair on off) (h .few) (h .long) .few;
-        long = learnt-long (t .letters) (pair on off) (h .few) (h .long);
-      }
-
-  pub handed-sound : SoundProgress (handed t s at .progress)
-  handed-sound = rw (handed-is t s at refl) (of-sound (standing t s at))
 
 -- a pair that is handed out is one of 260, and is counted
 pub handed-more : (t : Progress) (s : List ℕ) (at : ℕ) {r : Handed} {p : Pair} → r ≡ handed t s at → r .piece ≡ piece.Pair p

@@ -38,8 +38,7 @@ module _ (freq : ℕ) (s : List ℕ) {ps : List Pair} where
   whole : (k : ℕ) (before : List Pair) (after : After) (at : ℕ) → readFrom k freq s before (lettered before) after at ≡ pairs ps
       → Whole freq s before after at ps
   whole zero before after at e = let z : _≡_ {A = ℕ} 0 1 = cc in absurd (omega arith)
-  whole (suc k) before after at e =
-      go (nextBehind freq s before after at) refl (whole k) e
+  whole (suc k) before after at e = go (nextBehind freq s before after at) refl (whole k) e
     where
       one-more : {p : Pair} {x : After} {next : ℕ} (w : Whole freq s (before ++ (p ∷ [])) x next ps)
           → Parsed freq s before after at (p ∷ w .others) (w .to) → Whole freq s before after at ps

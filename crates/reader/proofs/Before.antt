@@ -42,8 +42,14 @@ run-parsed {s} {t} {at} before b (gives {p = p} {ps = ps} e r) =
         let same : getD (lettered before) i (pair 0 0) ≡ p = letter-is b i known ∙ (cc) in
         rw (← same) (letter-parsed (t .freq) s (next-is b s at f) (ih _ (behind-letter b i known)))
 
+-- the whole run: a fresh reader hands these pairs out, and then a fault
 pub pairs-before-fault : {freq : ℕ} {s : List ℕ} {at number : ℕ} {ps : List Pair}
     (r : HandsOut s (freshProgress freq) at ps (faulted number)) → Before freq s at ps (metAt r)
 pairs-before-fault {freq} r =
     let q = run-parsed [] (behind-none freq) r in
-    record { items = q .items; expands = q .expands; written = rw (text-from (q .items)) (q .text); place = rw (text-from (q .items)) (q .place) }
+    record {
+      items = q .items;
+      expands = q .expands;
+      written = rw (text-from (q .items)) (q .text);
+      place = rw (text-from (q .items)) (q .place);
+    }

@@ -9,10 +9,6 @@ use Rattle.allowed.proofs.Law.{promised, told, both}
 pub reader-fresh : One reader.Progress.fresh.ended (λ _. reader.Progress.fresh.spec)
 reader-fresh = told _ refl (λ _ _ _ _. refl)
 
--- reader::next_from
-pub reader-next-from : One reader.next_from.ended (λ _. reader.next_from.spec)
-reader-next-from = told _ refl (λ _ _ _ _. refl)
-
 -- reader::hand_out
 pub reader-hand-out : One reader.hand_out.ended (λ _. reader.hand_out.spec)
 reader-hand-out = told _ refl (λ _ _ _ _. refl)

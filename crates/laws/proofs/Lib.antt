@@ -1,3 +1,4 @@
 pub mod Choice
+pub mod Checks
 pub mod Lists
 pub mod Put

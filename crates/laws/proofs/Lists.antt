@@ -6,10 +6,12 @@ use mathlib.Core.Bool.{Bool, true, false}
 use native.Mathlib.Nat.{add-zero, add-suc, suc-add}
 use native.Mathlib.Numerals.{add-one}
 use native.Mathlib.Omega.{arith}
+use borrow.Author.Tests.{eq-eqb, eqb-true}
+use lib.Dec.{eqb}
 use lib.ListN.{length, take, drop, getD, set, length-drop, drop-of-length-le}
 use lib.Seq.{drop-cons, drop-drop, drop-append-seam, getD-drop, getD-take, length-take-le, sets}
-use Rattle.laws.specs.Lists.{leading, all}
-use Rattle.laws.proofs.Choice.{cond-case, and-left, and-right, and-true}
+use Rattle.laws.specs.Lists.{leading, all, same}
+use Rattle.laws.proofs.Choice.{cond-case, not-both, and-left, and-right, and-true}
 
 -- one step of a scan: the element at i, and what is behind it
 pub drop-next : {A : Type 0} (s : List A) (i : ℕ) (d : A) → i < length s → drop i s ≡ getD s i d ∷ drop (i + 1) s
@@ -97,3 +99,17 @@ module _ {A : Type 0} (s : List A) (at : ℕ) where
 
   pub stands-behind : (xs rest : List A) → drop at s ≡ xs ++ rest → drop (at + length xs) s ≡ rest
   stands-behind xs rest e = sym (drop-drop (length xs) at s) ∙ ap (drop (length xs)) e ∙ drop-append-seam xs rest
+
+-- ---- lists that are the same
+pub same-is : (a b : List ℕ) → same a b ≡ true → a ≡ b
+same-is [] [] e = refl
+same-is [] (b ∷ s) e = not-both e refl
+same-is (a ∷ w) [] e = not-both e refl
+same-is (a ∷ w) (b ∷ s) e =
+    let h : a ≡ b = sym (eqb-true b a (and-left (eqb b a) (same w s) e)) in
+    let t : w ≡ s = same-is w s (and-right (eqb b a) (same w s) e) in
+    cc
+
+pub same-self : (a : List ℕ) → same a a ≡ true
+same-self [] = refl
+same-self (a ∷ w) = and-true (eqb a a) (same w w) (eq-eqb a a refl) (same-self w)

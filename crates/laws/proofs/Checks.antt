@@ -1,0 +1,24 @@
+-- Laws of an order of checks, and of what there is or is not.
+use mathlib.Core.Path.{_≡_, refl}
+use mathlib.Core.Bool.{true, false}
+use mathlib.Core.List.{List, [], _∷_}
+use mathlib.Core.Option.{Option, none, some}
+use Rattle.laws.specs.Checks.{Check, first, isSome}
+use Rattle.laws.proofs.Choice.{cond-case, not-both}
+
+-- P of each answer where its test holds and none before it does, and of the other where none holds
+abbrev pub Through : {A : Type 0} → (A → Type 0) → List (Check A) → A → Type 0
+Through P [] other = P other
+Through P (k ∷ ks) other = (k .test ≡ true → P (k .gives)) × (k .test ≡ false → Through P ks other)
+
+pub through : {A : Type 0} (P : A → Type 0) (ks : List (Check A)) (other : A) → Through P ks other → P (first ks other)
+through P [] other h = h
+through P (k ∷ ks) other h = cond-case P (k .test) (k .gives) (first ks other) (h .0) (λ e. through P ks other (h .1 e))
+
+pub none-of : {A : Type 0} (o : Option A) → isSome o ≡ false → o ≡ none
+none-of none e = refl
+none-of (some x) e = not-both refl e
+
+pub some-of : {A : Type 0} (o : Option A) → isSome o ≡ true → (x : A) × (o ≡ some x)
+some-of none e = not-both e refl
+some-of (some x) e = (x, refl)

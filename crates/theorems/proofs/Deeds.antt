@@ -1,0 +1,236 @@
+-- What each call may have done, read off its row.
+use Prim.Native.Nat.{ℕ, _+_, _*_, _%_, _≤_, _<_}
+use mathlib.Core.Path.{_≡_, refl, sym, ap, _∙_}
+use mathlib.Core.Bool.{Bool, true, false, cond, not, _&&_, _||_}
+use mathlib.Core.List.{List, [], _∷_}
+use mathlib.Core.Logic.{inl, inr}
+use mathlib.Core.Option.{Option, none, some}
+use native.Mathlib.Omega.{arith}
+use borrow.Author.Tests.{ltb-true, ltb-false, leb-true, eqb-true, not-true, not-false}
+use lib.Dec.{ltb, leb, eqb}
+use lib.ListN.{length}
+use Rattle.laws.specs.Checks.{_⇒_, between}
+use Rattle.laws.specs.Lists.{same, part}
+use Rattle.laws.proofs.Choice.{cond-case, by-test, not-both, and-left, and-right}
+use Rattle.laws.proofs.Checks.{Through, through, none-of, some-of}
+use Rattle.laws.proofs.Lists.{same-is}
+use Rattle.words.specs.Digits.{worth}
+use Rattle.words.specs.declared.Fields.{Fields}
+use Rattle.meaning.specs.Line.{is, isNumber, number, within, codeIn}
+use Rattle.meaning.specs.Log.{Deed, isOwner, ownerOf, onAir, modeOf, setting, changed}
+use Rattle.meaning.specs.Table.{Judged, Row, Call, line, overlong, reading, closing, waiting, deedsOf, judge, getdevices, getversion, set-IR, get-IR, setstate, getstate, sendir, stopir, request, field, row, no, rowOf}
+use Rattle.meaning.specs.Table as table
+use Rattle.theorems.specs.Deeds.{Port, ModeWord, ir, sensor, blaster, Limits, Did, nothing, changes, reads, switches, starts, renews, halts, leaves, passes}
+
+-- ---- what a test tells
+
+pub between-is : (least most n : ℕ) → between least most n ≡ true → (least ≤ n) × (n ≤ most)
+between-is least most n e =
+    (leb-true least n (and-left (leb least n) (leb n most) e), leb-true n most (and-right (leb least n) (leb n most) e))
+
+pub within-is : (least most : ℕ) (f : List ℕ) → not (within least most f) ≡ false → (least ≤ number f) × (number f ≤ most)
+unfolding within
+within-is least most f e =
+    between-is least most (number f)
+    (and-right (isNumber f && leb (length f) 6) (between least most (number f)) (not-false (within least most f) e))
+
+pub owner-is : (connection : ℕ) (owner : Option ℕ) → isOwner connection owner ≡ true → owner ≡ some connection
+owner-is connection none e = not-both e refl
+owner-is connection (some c) e = ap some (eqb-true c connection e)
+
+or-cases : {A : Type 0} (a b : Bool) → a || b ≡ true → (a ≡ true → A) → (b ≡ true → A) → A
+or-cases true b e f g = f refl
+or-cases false b e f g = g e
+
+mode-of : (word : List ℕ) → not (is "IR" word || is "SENSOR" word || is "IR_BLASTER" word) ≡ false → ModeWord word
+mode-of word e =
+    or-cases (is "IR" word || is "SENSOR" word) (is "IR_BLASTER" word) (not-false _ e)
+    (λ a. or-cases (is "IR" word) (is "SENSOR" word) a (λ b. ir (sym (same-is _ word b))) (λ b. sensor (sym (same-is _ word b))))
+    (λ a. blaster (sym (same-is _ word a)))
+
+-- ---- the rows
+
+module _ (log : List Deed) (call : Call) where
+  abbrev Fits : Judged → Type 0
+  Fits j = Did log call (deedsOf j)
+
+  abbrev Meets : Row → Type 0
+  Meets r = Through Fits (r .checks) (r .otherwise)
+
+module _ (log : List Deed) (connection room : ℕ) (text : List ℕ) (c : connection ≤ 7) where
+  abbrev asks : Call
+  asks = line connection room text
+
+  abbrev p : ℕ
+  p = table.p log connection text
+
+  port-is : not (within 1 3 (part 58 1 (field log connection text 1))) ≡ false → Port p
+  port-is e = let w = within-is 1 3 _ e in record { least = w .0; most = w .1 }
+
+  set-IR-did : Meets log asks (set-IR log connection text)
+  unfolding set-IR
+  set-IR-did = (
+    λ _. nothing,
+    λ _. (
+      λ _. nothing,
+      λ _. (
+        λ _. nothing,
+        λ port. (
+          λ _. nothing,
+          λ mode. (
+            λ _. nothing,
+            λ _. (
+              λ _. nothing,
+              λ _. (
+                λ _. nothing,
+                λ air.
+                    cond-case (Did log asks) (same (modeOf p log) (field log connection text 2)) [] _
+                    (λ _. nothing) (λ _. changes p _ (port-is port) (mode-of _ mode) (none-of (onAir p log) air)),
+              ),
+            ),
+          ),
+        ),
+      ),
+    ),
+  )
+
+  setstate-did : Meets log asks (setstate log connection text)
+  unfolding setstate
+  setstate-did = (
+    λ _. nothing,
+    λ _. (
+      λ _. nothing,
+      λ _. (
+        λ _. nothing,
+        λ port. (
+          λ _. nothing,
+          λ state. (
+            λ _. nothing,
+            λ _.
+                switches p _ (port-is port) (within-is 0 1 (field log connection text 2) state .1),
+          ),
+        ),
+      ),
+    ),
+  )
+
+  getstate-did : Meets log asks (getstate log connection text)
+  unfolding getstate
+  getstate-did =
+      (λ _. nothing, λ _. (λ _. nothing, λ _. (λ _. nothing, λ _. (λ _. nothing, λ _. (λ _. nothing, λ _. (λ _. nothing, λ _. (λ _. nothing, λ _. nothing)))))))
+
+  stopir-did : Meets log asks (stopir log connection text)
+  unfolding stopir
+  stopir-did =
+      (λ _. nothing, λ _. (λ _. nothing, λ _. (λ _. nothing, λ port. (λ _. nothing, λ _. (λ _. nothing, λ mode. halts p (port-is port) mode)))))
+
+  sendir-did : Meets log asks (sendir log connection text)
+  unfolding sendir
+  sendir-did = (
+    λ _. nothing,
+    λ _. (
+      λ _. nothing,
+      λ _. (
+        λ _. nothing,
+        λ port. (
+          λ _. nothing,
+          λ mode. (
+            λ _. nothing,
+            λ id. (
+              λ _. nothing,
+              λ freq. (
+                λ _. nothing,
+                λ repeat. (
+                  λ _. nothing,
+                  λ _. (
+                    λ _. nothing,
+                    λ _. (
+                      λ _. nothing,
+                      λ offset.
+                          let limits : Limits _ (codeIn _ _ .pairs) =
+                          record {
+                            id-most = within-is 0 65535 (field log connection text 2) id .1;
+                            freq-least = within-is 15000 500000 (field log connection text 3) freq .0;
+                            freq-most = within-is 15000 500000 (field log connection text 3) freq .1;
+                            repeat-least = capped-least _ (within-is 1 999999 (field log connection text 4) repeat .0);
+                            repeat-most = capped-most (number (field log connection text 4));
+                            offset-most = ltb-true _ _ (not-false _ offset);
+                          } in (
+                            λ air. starts p connection room text _ _ refl c (port-is port) mode limits (inl (none-of (onAir p log) (not-true _ air))),
+                            λ air. (
+                              λ _. nothing,
+                              λ own.
+                                  let mine = owner-is connection (ownerOf p log) (not-false _ own) in
+                                  let running = some-of (onAir p log) (not-false _ air) in (
+                                    λ _. renews p connection room text (running .0) refl c (port-is port) mode (running .1) mine,
+                                    λ _.
+                                        starts p connection room text _ _ refl c (port-is port) mode limits (inr mine),
+                                  ),
+                            ),
+                          ),
+                    ),
+                  ),
+                ),
+              ),
+            ),
+          ),
+        ),
+      ),
+    ),
+  )
+    where
+      capped-least : (n : ℕ) → 1 ≤ n → 1 ≤ cond (ltb 20 n) 20 n
+      capped-least n h = cond-case (λ (k : ℕ). 1 ≤ k) (ltb 20 n) 20 n (λ _. omega arith) (λ _. h)
+
+      capped-most : (n : ℕ) → cond (ltb 20 n) 20 n ≤ 20
+      capped-most n = cond-case (λ (k : ℕ). k ≤ 20) (ltb 20 n) 20 n (λ _. omega arith) (λ e. ltb-false 20 n e)
+
+  request-did : Meets log asks (request log connection text)
+  unfolding request getdevices getversion get-IR
+  request-did =
+      let name = field log connection text 0 in
+      through (Meets log asks)
+      ((is "getdevices" name ⇒ getdevices log connection text)
+      ∷ (is "getversion" name ⇒ getversion log connection text)
+      ∷ (is "set_IR" name ⇒ set-IR log connection text)
+      ∷ (is "get_IR" name ⇒ get-IR log connection text)
+      ∷ (is "setstate" name ⇒ setstate log connection text)
+      ∷ (is "getstate" name ⇒ getstate log connection text)
+      ∷ (is "sendir" name ⇒ sendir log connection text)
+      ∷ (is "stopir" name ⇒ stopir log connection text)
+      ∷ []) (row [] (no 1)) (
+        λ _. (λ _. nothing, λ _. nothing),
+        λ _. (
+          λ _. (λ _. nothing, λ _. nothing),
+          λ _. (
+            λ _. set-IR-did,
+            λ _. (
+              λ _. (λ _. nothing, λ _. (λ _. nothing, λ _. (λ _. nothing, λ _. (λ _. nothing, λ _. nothing)))),
+              λ _.
+                  (λ _. setstate-did, λ _. (λ _. getstate-did, λ _. (λ _. sendir-did, λ _. (λ _. stopir-did, λ _. nothing)))),
+            ),
+          ),
+        ),
+      )
+
+-- a call over any log did nothing, or one of the deeds that `Did` lists
+pub did : (log : List Deed) (call : Call) → Did log call (deedsOf (judge log call))
+did log (line connection room text) =
+    through (Fits log (line connection room text)) (rowOf log (line connection room text) .checks) (rowOf log (line connection room text) .otherwise)
+    (λ _. nothing, λ c. (λ _. nothing, λ _. (λ _. nothing, λ _. (λ _. nothing, λ _. request-did log connection room text (ltb-false 7 connection c)))))
+did log (overlong connection room) =
+    through (Fits log (overlong connection room)) (rowOf log (overlong connection room) .checks) (rowOf log (overlong connection room) .otherwise) (λ _. nothing, λ _. (λ _. nothing, λ _. nothing))
+did log (reading q value) =
+    through (Fits log (reading q value)) (rowOf log (reading q value) .checks) (rowOf log (reading q value) .otherwise) (
+      λ _. nothing,
+      λ e.
+          let all = not-false _ e in
+          let front = and-left (between 1 3 q && is "SENSOR" (modeOf q log)) (between 0 1 value) all in
+          let port = between-is 1 3 q (and-left (between 1 3 q) (is "SENSOR" (modeOf q log)) front) in
+          let mode = and-right (between 1 3 q) (is "SENSOR" (modeOf q log)) front in
+          let small = between-is 0 1 value (and-right (between 1 3 q && is "SENSOR" (modeOf q log)) (between 0 1 value) all) .1 in
+          reads q value refl (record { least = port .0; most = port .1 }) mode small,
+    )
+did log (closing connection) =
+    through (Fits log (closing connection)) (rowOf log (closing connection) .checks) (rowOf log (closing connection) .otherwise) (λ _. nothing, λ e. leaves connection refl (ltb-false 7 connection e))
+did log (waiting n) = through (Fits log (waiting n)) (rowOf log (waiting n) .checks) (rowOf log (waiting n) .otherwise) (λ _. nothing, λ e. passes n refl (ltb-false 1000000000 n e))

@@ -1,5 +1,5 @@
 -- What each call may have done, read off its row.
-use Prim.Native.Nat.{ℕ, _+_, _*_, _%_, _≤_, _<_}
+use Prim.Native.Nat.{ℕ, zero, suc, _+_, _*_, _%_, _≤_, _<_}
 use mathlib.Core.Path.{_≡_, refl, sym, ap, _∙_}
 use mathlib.Core.Bool.{Bool, true, false, cond, not, _&&_, _||_}
 use mathlib.Core.List.{List, [], _∷_}
@@ -21,6 +21,14 @@ use Rattle.meaning.specs.Log.{Deed, isOwner, ownerOf, onAir, modeOf, setting, c
 use Rattle.meaning.specs.Table.{Judged, Row, Call, line, overlong, reading, closing, waiting, deedsOf, judge, getdevices, getversion, set-IR, get-IR, setstate, getstate, sendir, stopir, request, field, row, no, rowOf}
 use Rattle.meaning.specs.Table as table
 use Rattle.theorems.specs.Deeds.{Port, ModeWord, ir, sensor, blaster, Limits, Did, nothing, changes, reads, switches, starts, renews, halts, leaves, passes}
+
+-- ---- a port is 1, 2 or 3
+pub ports : (p : ℕ) → Port p → (P : ℕ → Type 0) → P 1 → P 2 → P 3 → P p
+ports zero port P a b c = absurd (omega (arith, port .least))
+ports (suc zero) port P a b c = a
+ports (suc (suc zero)) port P a b c = b
+ports (suc (suc (suc zero))) port P a b c = c
+ports (suc (suc (suc (suc n)))) port P a b c = absurd (omega (arith, port .most))
 
 -- ---- what a test tells
 

@@ -1,2 +1,5 @@
 pub mod Deeds
 pub mod Owners
+pub mod Times
+pub mod Completing
+pub mod Silent

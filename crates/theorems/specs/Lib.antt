@@ -1,2 +1,3 @@
 pub mod Deeds
 pub mod Owners
+pub mod Notices

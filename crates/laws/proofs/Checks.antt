@@ -1,10 +1,11 @@
 -- Laws of an order of checks, and of what there is or is not.
 use mathlib.Core.Path.{_≡_, refl}
-use mathlib.Core.Bool.{true, false}
+use mathlib.Core.Bool.{Bool, true, false, _&&_}
 use mathlib.Core.List.{List, [], _∷_}
 use mathlib.Core.Option.{Option, none, some}
 use Rattle.laws.specs.Checks.{Check, first, isSome}
-use Rattle.laws.proofs.Choice.{cond-case, not-both}
+use Rattle.laws.specs.Lists.{all}
+use Rattle.laws.proofs.Choice.{cond-case, not-both, and-left, and-right, and-true}
 
 -- P of each answer where its test holds and none before it does, and of the other where none holds
 abbrev pub Through : {A : Type 0} → (A → Type 0) → List (Check A) → A → Type 0
@@ -15,6 +16,18 @@ pub through : {A : Type 0} (P : A → Type 0) (ks : List (Check A)) (other : A) 
 through P [] other h = h
 through P (k ∷ ks) other h = cond-case P (k .test) (k .gives) (first ks other) (h .0) (λ e. through P ks other (h .1 e))
 
+-- a test of every answer
+module _ {A : Type 0} (test : A → Bool) where
+  pub first-all : (ks : List (Check A)) (other : A) → all (λ k. test (k .gives)) ks && test other ≡ true → test (first ks other) ≡ true
+  first-all [] other e = e
+  first-all (k ∷ ks) other e =
+      let a = and-left (test (k .gives) && all (λ j. test (j .gives)) ks) (test other) e in
+      let b = and-right (test (k .gives) && all (λ j. test (j .gives)) ks) (test other) e in
+      cond-case (λ (x : A). test x ≡ true) (k .test) (k .gives) (first ks other)
+      (λ _. and-left (test (k .gives)) _ a)
+      (λ _. first-all ks other (and-true (all (λ j. test (j .gives)) ks) (test other) (and-right (test (k .gives)) _ a) b))
+
+-- ---- what there is or is not
 pub none-of : {A : Type 0} (o : Option A) → isSome o ≡ false → o ≡ none
 none-of none e = refl
 none-of (some x) e = not-both refl e

@@ -1,25 +1,26 @@
 -- Each transmission that is left alone is followed by exactly one notice, over any number of waits.
-use Prim.Native.Nat.{ℕ, suc, _+_, _-_, _≤_, _<_}
+use Prim.Native.Nat.{ℕ, suc, _+_, _-_, _≤_}
 use mathlib.Core.Path.{_≡_, refl, sym, ap, ap₂, _∙_, subst}
 use mathlib.Core.Bool.{Bool, true, false, cond, not, _&&_}
 use mathlib.Core.List.{List, [], _∷_, _++_, append-nil}
 use mathlib.Core.Option.{Option, none, some}
 use native.Mathlib.Omega.{arith}
 use native.Mathlib.Nat.{add-zero}
-use borrow.Author.Tests.{le-leb, lt-leb, leb-true, leb-false, ltb-true, ltb-false, eqb-true, eqb-false, eq-eqb, not-true}
+use borrow.Author.Tests.{le-leb, leb-true, leb-false, eqb-true, eq-eqb, not-true}
 use lib.Dec.{ltb, leb, eqb}
-use lib.ListN.{length, length-append}
-use Rattle.laws.specs.Checks.{Check, _⇒_, first}
+use lib.ListN.{length}
 use Rattle.laws.specs.Lists.{all}
-use Rattle.laws.proofs.Choice.{cond-case, by-test, not-both, and-left, and-right, and-true}
+use Rattle.laws.proofs.Choice.{cond-case, by-test, not-both, and-left, and-right}
+use Rattle.laws.proofs.Checks.{first-all}
 use Rattle.words.specs.Decimal.{decimal}
 use Rattle.meaning.specs.Line as text
 use Rattle.meaning.specs.Line.{is}
 use Rattle.meaning.specs.Time.{Transmission, complete, finish}
 use Rattle.meaning.specs.Log.{Deed, passed, setting, switched, event, started, renewed, halted, left, now, lastOf, ownerOf, onAir}
-use Rattle.meaning.specs.Table.{Completion, Answer, refused, taken, replied, Judged, refusal, error, does, Row, row, no, Call, line, overlong, reading, closing, waiting, answerOf, deedsOf, judge, logged, logOf, rowOf, dueOf, due, inserted, ordered, completions, field, getdevices, getversion, set-IR, get-IR, setstate, getstate, sendir, stopir, request}
+use Rattle.meaning.specs.Table.{Completion, refused, taken, replied, Judged, refusal, error, does, Row, row, no, Call, line, overlong, reading, closing, waiting, answerOf, deedsOf, judge, logged, logOf, rowOf, dueOf, due, inserted, ordered, completions, field, getdevices, getversion, set-IR, get-IR, setstate, getstate, sendir, stopir, request}
 use Rattle.theorems.specs.Deeds.{Port, Did, nothing, changes, reads, switches, starts, renews, halts, leaves, passes}
 use Rattle.theorems.specs.Notices.{Notice, noticeOf, isFor, noticesIn, noticesOf, notices, loggedAll, touches, startsOn, LeftAlone, Unstarted}
+use Rattle.theorems.proofs.Rows.{by-rows}
 use Rattle.theorems.proofs.Deeds.{ports, did}
 use Rattle.theorems.proofs.Times.{Begun, begun-later, complete-is, BegunBy, last-begun, on-air-is, none-later}
 
@@ -39,30 +40,9 @@ plain (does (replied words told) deeds) = true
 abbrev plainRow : Row → Bool
 plainRow r = all (λ k. plain (k .gives)) (r .checks) && plain (r .otherwise)
 
-module _ {A : Type 0} (test : A → Bool) where
-  first-all : (ks : List (Check A)) (other : A) → all (λ k. test (k .gives)) ks && test other ≡ true → test (first ks other) ≡ true
-  first-all [] other e = e
-  first-all (k ∷ ks) other e =
-      let a = and-left (test (k .gives) && all (λ j. test (j .gives)) ks) (test other) e in
-      let b = and-right (test (k .gives) && all (λ j. test (j .gives)) ks) (test other) e in
-      cond-case (λ (x : A). test x ≡ true) (k .test) (k .gives) (first ks other)
-      (λ _. and-left (test (k .gives)) _ a)
-      (λ _. first-all ks other (and-true (all (λ j. test (j .gives)) ks) (test other) (and-right (test (k .gives)) _ a) b))
-
 request-plain : (log : List Deed) (connection : ℕ) (s : List ℕ) → plainRow (request log connection s) ≡ true
-unfolding request getdevices getversion set-IR get-IR setstate getstate sendir stopir
-request-plain log connection s =
-    let name = field log connection s 0 in
-    first-all plainRow
-    ((is "getdevices" name ⇒ getdevices log connection s)
-    ∷ (is "getversion" name ⇒ getversion log connection s)
-    ∷ (is "set_IR" name ⇒ set-IR log connection s)
-    ∷ (is "get_IR" name ⇒ get-IR log connection s)
-    ∷ (is "setstate" name ⇒ setstate log connection s)
-    ∷ (is "getstate" name ⇒ getstate log connection s)
-    ∷ (is "sendir" name ⇒ sendir log connection s)
-    ∷ (is "stopir" name ⇒ stopir log connection s)
-    ∷ []) (row [] (no 1)) refl
+unfolding getdevices getversion set-IR get-IR setstate getstate sendir stopir
+request-plain log connection s = by-rows log connection s (λ r. plainRow r ≡ true) refl refl refl refl refl refl refl refl refl
 
 plain-tells : (p t : ℕ) (j : Judged) → plain j ≡ true → noticesOf p t (answerOf j) ≡ []
 plain-tells p t (refusal n) e = refl

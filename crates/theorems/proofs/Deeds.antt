@@ -1,25 +1,24 @@
 -- What each call may have done, read off its row.
-use Prim.Native.Nat.{ℕ, zero, suc, _+_, _*_, _%_, _≤_, _<_}
-use mathlib.Core.Path.{_≡_, refl, sym, ap, _∙_}
+use Prim.Native.Nat.{ℕ, zero, suc, _≤_}
+use mathlib.Core.Path.{_≡_, refl, sym, ap}
 use mathlib.Core.Bool.{Bool, true, false, cond, not, _&&_, _||_}
-use mathlib.Core.List.{List, [], _∷_}
+use mathlib.Core.List.{List, []}
 use mathlib.Core.Logic.{inl, inr}
 use mathlib.Core.Option.{Option, none, some}
 use native.Mathlib.Omega.{arith}
 use borrow.Author.Tests.{ltb-true, ltb-false, leb-true, eqb-true, not-true, not-false}
 use lib.Dec.{ltb, leb, eqb}
 use lib.ListN.{length}
-use Rattle.laws.specs.Checks.{_⇒_, between}
+use Rattle.laws.specs.Checks.{between}
 use Rattle.laws.specs.Lists.{same, part}
-use Rattle.laws.proofs.Choice.{cond-case, by-test, not-both, and-left, and-right}
+use Rattle.laws.proofs.Choice.{cond-case, not-both, and-left, and-right}
 use Rattle.laws.proofs.Checks.{Through, through, none-of, some-of}
 use Rattle.laws.proofs.Lists.{same-is}
-use Rattle.words.specs.Digits.{worth}
-use Rattle.words.specs.declared.Fields.{Fields}
 use Rattle.meaning.specs.Line.{is, isNumber, number, within, codeIn}
-use Rattle.meaning.specs.Log.{Deed, isOwner, ownerOf, onAir, modeOf, setting, changed}
+use Rattle.meaning.specs.Log.{Deed, isOwner, ownerOf, onAir, modeOf}
 use Rattle.meaning.specs.Table.{Judged, Row, Call, line, overlong, reading, closing, waiting, deedsOf, judge, getdevices, getversion, set-IR, get-IR, setstate, getstate, sendir, stopir, request, field, row, no, rowOf}
 use Rattle.meaning.specs.Table as table
+use Rattle.theorems.proofs.Rows.{by-rows, by-line}
 use Rattle.theorems.specs.Deeds.{Port, ModeWord, ir, sensor, blaster, Limits, Did, nothing, changes, reads, switches, starts, renews, halts, leaves, passes}
 
 -- ---- a port is 1, 2 or 3
@@ -194,38 +193,25 @@ module _ (log : List Deed) (connection room : ℕ) (text : List ℕ) (c : connec
       capped-most n = cond-case (λ (k : ℕ). k ≤ 20) (ltb 20 n) 20 n (λ _. omega arith) (λ e. ltb-false 20 n e)
 
   request-did : Meets log asks (request log connection text)
-  unfolding request getdevices getversion get-IR
+  unfolding getdevices getversion get-IR
   request-did =
-      let name = field log connection text 0 in
-      through (Meets log asks)
-      ((is "getdevices" name ⇒ getdevices log connection text)
-      ∷ (is "getversion" name ⇒ getversion log connection text)
-      ∷ (is "set_IR" name ⇒ set-IR log connection text)
-      ∷ (is "get_IR" name ⇒ get-IR log connection text)
-      ∷ (is "setstate" name ⇒ setstate log connection text)
-      ∷ (is "getstate" name ⇒ getstate log connection text)
-      ∷ (is "sendir" name ⇒ sendir log connection text)
-      ∷ (is "stopir" name ⇒ stopir log connection text)
-      ∷ []) (row [] (no 1)) (
-        λ _. (λ _. nothing, λ _. nothing),
-        λ _. (
-          λ _. (λ _. nothing, λ _. nothing),
-          λ _. (
-            λ _. set-IR-did,
-            λ _. (
-              λ _. (λ _. nothing, λ _. (λ _. nothing, λ _. (λ _. nothing, λ _. (λ _. nothing, λ _. nothing)))),
-              λ _.
-                  (λ _. setstate-did, λ _. (λ _. getstate-did, λ _. (λ _. sendir-did, λ _. (λ _. stopir-did, λ _. nothing)))),
-            ),
-          ),
-        ),
-      )
+      by-rows log connection text (Meets log asks)
+      (λ _. nothing, λ _. nothing)
+      (λ _. nothing, λ _. nothing)
+      set-IR-did
+      (λ _. nothing, λ _. (λ _. nothing, λ _. (λ _. nothing, λ _. (λ _. nothing, λ _. nothing))))
+      setstate-did
+      getstate-did
+      sendir-did
+      stopir-did
+      nothing
 
 -- a call over any log did nothing, or one of the deeds that `Did` lists
 pub did : (log : List Deed) (call : Call) → Did log call (deedsOf (judge log call))
 did log (line connection room text) =
-    through (Fits log (line connection room text)) (rowOf log (line connection room text) .checks) (rowOf log (line connection room text) .otherwise)
-    (λ _. nothing, λ c. (λ _. nothing, λ _. (λ _. nothing, λ _. (λ _. nothing, λ _. request-did log connection room text (ltb-false 7 connection c)))))
+    let asked = request log connection text in
+    by-line log connection text (Fits log (line connection room text)) room nothing nothing nothing nothing
+    (λ c. through (Fits log (line connection room text)) (asked .checks) (asked .otherwise) (request-did log connection room text c))
 did log (overlong connection room) =
     through (Fits log (overlong connection room)) (rowOf log (overlong connection room) .checks) (rowOf log (overlong connection room) .otherwise) (λ _. nothing, λ _. (λ _. nothing, λ _. nothing))
 did log (reading q value) =

@@ -1,7 +1,7 @@
 -- The moment of completion is the first at which the ticks done reach the total; every transmission that a history has was started in time.
-use Prim.Native.Nat.{ℕ, _+_, _-_, _*_, _≤_, _<_}
-use mathlib.Core.Path.{_≡_, refl, sym, ap, _∙_, subst}
-use mathlib.Core.Bool.{Bool, true, false, cond}
+use Prim.Native.Nat.{ℕ, _+_, _-_, _*_, _≤_}
+use mathlib.Core.Path.{_≡_, refl, sym, ap, _∙_}
+use mathlib.Core.Bool.{true, false, cond}
 use mathlib.Core.List.{List, [], _∷_, _++_}
 use mathlib.Core.Option.{Option, none, some, Option·map}
 use native.Mathlib.Nat.{add-mul, div-lt-iff-lt-mul, lt-div-mul-add, mul-le-mul-right}
@@ -9,12 +9,10 @@ use native.Mathlib.Omega.{arith}
 use borrow.Author.Tests.{le-leb, lt-leb, leb-true, leb-false}
 use lib.Dec.{leb, eqb}
 use Rattle.laws.proofs.Choice.{cond-case, by-test, not-both}
-use Rattle.words.specs.declared.Pair.{Pair}
-use Rattle.words.specs.declared.Fields.{Fields}
 use Rattle.meaning.specs.Time.{Transmission, total, done, complete, firstMicro, finish}
 use Rattle.meaning.specs.Time as time
 use Rattle.meaning.specs.Log.{Deed, now, lastOf, onAir, until}
-use Rattle.meaning.specs.Table.{Call, judge, deedsOf, logOf, logged}
+use Rattle.meaning.specs.Table.{Call, logOf}
 use Rattle.theorems.specs.Deeds.{Limits, Did, nothing, changes, reads, switches, starts, renews, halts, leaves, passes}
 use Rattle.theorems.proofs.Deeds.{did}
 

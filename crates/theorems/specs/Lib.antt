@@ -1,3 +1,4 @@
 pub mod Deeds
 pub mod Owners
 pub mod Notices
+pub mod Contacts

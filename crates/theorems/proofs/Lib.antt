@@ -5,3 +5,5 @@ pub mod Times
 pub mod Completing
 pub mod Silent
 pub mod Contacts
+pub mod Later
+pub mod Order

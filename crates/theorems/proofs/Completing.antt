@@ -10,7 +10,7 @@ use borrow.Author.Tests.{le-leb, leb-true, leb-false, eqb-true, eq-eqb, not-true
 use lib.Dec.{ltb, leb, eqb}
 use lib.ListN.{length}
 use Rattle.laws.specs.Lists.{all}
-use Rattle.laws.proofs.Choice.{cond-case, by-test, not-both, and-left, and-right}
+use Rattle.laws.proofs.Choice.{clash, cond-case, by-test, not-both, and-left, and-right}
 use Rattle.laws.proofs.Checks.{first-all}
 use Rattle.words.specs.Decimal.{decimal}
 use Rattle.meaning.specs.Line as text
@@ -23,9 +23,6 @@ use Rattle.theorems.specs.Notices.{Notice, noticeOf, isFor, noticesIn, n
 use Rattle.theorems.proofs.Rows.{by-rows}
 use Rattle.theorems.proofs.Deeds.{ports, did}
 use Rattle.theorems.proofs.Times.{Begun, begun-later, complete-is, BegunBy, last-begun, on-air-is, none-later}
-
-clash : {A : Type 0} → _≡_ {A = ℕ} 0 1 → A
-clash e = absurd (omega arith)
 
 -- ---- only a wait tells completions
 

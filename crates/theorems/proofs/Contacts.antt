@@ -11,8 +11,8 @@ use lib.ListN.{length, take, drop, getD, length-append}
 use Rattle.laws.specs.Bytes.{bytes}
 use Rattle.laws.specs.Checks.{first, isSome}
 use Rattle.laws.specs.Lists.{all, same, cut, part}
-use Rattle.laws.proofs.Choice.{cond-case, by-test, not-both, and-left, and-right}
-use Rattle.laws.proofs.Checks.{through, first-all}
+use Rattle.laws.proofs.Choice.{clash, cond-case, by-test, not-both, and-left, and-right}
+use Rattle.laws.proofs.Checks.{through, past, first-all}
 use Rattle.laws.proofs.Lists.{all-append}
 use Rattle.words.specs.Decimal.{decimal, decimalIn, threeDigits}
 use Rattle.text.proofs.Decimals.{decimal-small}
@@ -24,9 +24,6 @@ use Rattle.theorems.specs.Deeds.{Port, inSensor, Did, nothing, changes, 
 use Rattle.theorems.specs.Contacts.{AsksState, isSetting, LastFelt, LastReading, isSwitching, LastSwitched, never, last}
 use Rattle.theorems.proofs.Rows.{by-rows, by-line}
 use Rattle.theorems.proofs.Deeds.{within-is, did}
-
-clash : {A : Type 0} → _≡_ {A = ℕ} 0 1 → A
-clash e = absurd (omega arith)
 
 -- ---- what is answered
 module _ (log : List Deed) (p connection room : ℕ) (s : List ℕ) where
@@ -141,34 +138,15 @@ module _ (log : List Deed) (p v : ℕ) (told : Option ℕ) (port : Port p) (smal
     getstate-contact : RowContact (getstate log connection s)
     unfolding getstate decimal
     getstate-contact =
-        through FromContact (getstate log connection s .checks) (getstate log connection s .otherwise) (
-          λ _. not-contact _ refl,
-          λ _. (
-            λ _. not-contact _ refl,
-            λ _. (
-              λ _. not-contact _ refl,
-              λ port. (
-                λ _. not-contact _ refl,
-                λ _. (
-                  λ _. not-contact _ refl,
-                  λ _. (
-                    λ _. not-contact _ refl,
-                    λ mode. (
-                      λ _. not-contact _ refl,
-                      λ read.
-                          let w = within-is 1 3 (part 58 1 (field log connection s 1)) port in
-                          record {
-                            tells =
-                                contact-said (table.p log connection s) (record { least = w .0; most = w .1 }) (not-false _ mode)
-                                (contactOf (table.p log connection s) log) refl (not-false _ read);
-                          },
-                    ),
-                  ),
-                ),
-              ),
-            ),
-          ),
-        )
+        through FromContact (getstate log connection s .checks) (getstate log connection s .otherwise)
+        (past (not-contact _ refl) (λ _. past (not-contact _ refl) (λ _. past (not-contact _ refl) (λ port. past (not-contact _ refl) (λ _.
+        past (not-contact _ refl) (λ _. past (not-contact _ refl) (λ mode. past (not-contact _ refl) (λ read.
+        let w = within-is 1 3 (part 58 1 (field log connection s 1)) port in
+        record {
+          tells =
+              contact-said (table.p log connection s) (record { least = w .0; most = w .1 }) (not-false _ mode)
+              (contactOf (table.p log connection s) log) refl (not-false _ read);
+        }))))))))
 
     request-contact : RowContact (request log connection s)
     unfolding getdevices getversion set-IR get-IR setstate sendir stopir decimal
@@ -228,44 +206,20 @@ module _ (log : List Deed) (p v : ℕ) (told : Option ℕ) (port : Port p) (smal
     getstate-relay : RowRelay (getstate log connection s)
     unfolding getstate decimal
     getstate-relay =
-        through FromRelay (getstate log connection s .checks) (getstate log connection s .otherwise) (
-          λ _. not-relay _ refl,
-          λ _. (
-            λ _. not-relay _ refl,
-            λ _. (
-              λ _. not-relay _ refl,
-              λ port. (
-                λ _. not-relay _ refl,
-                λ _. (
-                  λ _. record { tells = λ e. let t = relay-said q (relayOf q log) (asked-port port) e in rw (t .0) at (t .1) },
-                  λ _.
-                      (λ _. not-relay _ refl, λ _. (λ _. not-relay _ refl, λ _. not-relay _ refl)),
-                ),
-              ),
-            ),
-          ),
-        )
+        through FromRelay (getstate log connection s .checks) (getstate log connection s .otherwise)
+        (past (not-relay _ refl) (λ _. past (not-relay _ refl) (λ _. past (not-relay _ refl) (λ port. past (not-relay _ refl) (λ _.
+        past (record { tells = λ e. let t = relay-said q (relayOf q log) (asked-port port) e in rw (t .0) at (t .1) })
+        (λ _. past (not-relay _ refl) (λ _. past (not-relay _ refl) (λ _. not-relay _ refl))))))))
 
     setstate-relay : RowRelay (setstate log connection s)
     unfolding setstate decimal
     setstate-relay =
-        through FromRelay (setstate log connection s .checks) (setstate log connection s .otherwise) (
-          λ _. not-relay _ refl,
-          λ _. (
-            λ _. not-relay _ refl,
-            λ _. (
-              λ _. not-relay _ refl,
-              λ port. (
-                λ _. not-relay _ refl,
-                λ _. (
-                  λ _. not-relay _ refl,
-                  λ _.
-                      record { tells = λ e. let t = relay-said q (text.number (field log connection s 2)) (asked-port port) e in rw (eq-eqb q p (t .0)) (t .1) },
-                ),
-              ),
-            ),
-          ),
-        )
+        through FromRelay (setstate log connection s .checks) (setstate log connection s .otherwise)
+        (past (not-relay _ refl) (λ _. past (not-relay _ refl) (λ _. past (not-relay _ refl) (λ port. past (not-relay _ refl) (λ _. past (not-relay _ refl) (λ _.
+        record {
+          tells =
+              λ e. let t = relay-said q (text.number (field log connection s 2)) (asked-port port) e in rw (eq-eqb q p (t .0)) (t .1);
+        }))))))
 
     request-relay : RowRelay (request log connection s)
     unfolding getdevices getversion set-IR get-IR sendir stopir decimal

@@ -1,5 +1,5 @@
 -- What each call may have done, read off its row.
-use Prim.Native.Nat.{ℕ, zero, suc, _≤_}
+use Prim.Native.Nat.{ℕ, zero, suc, _%_, _≤_, _<_}
 use mathlib.Core.Path.{_≡_, refl, sym, ap}
 use mathlib.Core.Bool.{Bool, true, false, cond, not, _&&_, _||_}
 use mathlib.Core.List.{List, []}
@@ -9,15 +9,16 @@ use native.Mathlib.Omega.{arith}
 use borrow.Author.Tests.{ltb-true, ltb-false, leb-true, eqb-true, not-true, not-false}
 use lib.Dec.{ltb, leb, eqb}
 use lib.ListN.{length}
-use Rattle.laws.specs.Checks.{between}
-use Rattle.laws.specs.Lists.{same, part}
-use Rattle.laws.proofs.Choice.{cond-case, not-both, and-left, and-right}
-use Rattle.laws.proofs.Checks.{Through, through, none-of, some-of}
+use Rattle.laws.specs.Checks.{first, between}
+use Rattle.laws.specs.Lists.{same, part, behind}
+use Rattle.laws.proofs.Choice.{cond-case, by-test, not-both, and-left, and-right}
+use Rattle.laws.proofs.Checks.{Through, through, past, none-of, some-of}
 use Rattle.laws.proofs.Lists.{same-is}
 use Rattle.meaning.specs.Line.{is, isNumber, number, within, codeIn}
 use Rattle.meaning.specs.Log.{Deed, isOwner, ownerOf, onAir, modeOf}
 use Rattle.meaning.specs.Table.{Judged, Row, Call, line, overlong, reading, closing, waiting, deedsOf, judge, getdevices, getversion, set-IR, get-IR, setstate, getstate, sendir, stopir, request, field, row, no, rowOf}
 use Rattle.meaning.specs.Table as table
+use Rattle.theorems.proofs.Codes.{code-pairs}
 use Rattle.theorems.proofs.Rows.{by-rows, by-line}
 use Rattle.theorems.specs.Deeds.{Port, ModeWord, ir, sensor, blaster, Limits, Did, nothing, changes, reads, switches, starts, renews, halts, leaves, passes}
 
@@ -49,6 +50,22 @@ or-cases : {A : Type 0} (a b : Bool) → a || b ≡ true → (a ≡ true → A) 
 or-cases true b e f g = f refl
 or-cases false b e f g = g e
 
+or-left : (a b : Bool) → a || b ≡ false → a ≡ false
+or-left true b e = not-both refl e
+or-left false b e = refl
+
+or-right : (a b : Bool) → a || b ≡ false → b ≡ false
+or-right true b e = not-both refl e
+or-right false b e = e
+
+is-odd : (n : ℕ) → eqb (n % 2) 0 ≡ false → n % 2 ≡ 1
+is-odd n e = by-test (eqb (n % 2) 1) (λ t. eqb-true (n % 2) 1 t) (λ t. absurd (two (n % 2) (omega arith) e t))
+  where
+    two : (k : ℕ) → k < 2 → eqb k 0 ≡ false → eqb k 1 ≡ false → ⊥
+    two zero h e t = not-both refl e
+    two (suc zero) h e t = not-both refl t
+    two (suc (suc k)) h e t = omega arith
+
 mode-of : (word : List ℕ) → not (is "IR" word || is "SENSOR" word || is "IR_BLASTER" word) ≡ false → ModeWord word
 mode-of word e =
     or-cases (is "IR" word || is "SENSOR" word) (is "IR_BLASTER" word) (not-false _ e)
@@ -64,6 +81,9 @@ module _ (log : List Deed) (call : Call) where
   abbrev Meets : Row → Type 0
   Meets r = Through Fits (r .checks) (r .otherwise)
 
+  by-row : (r : Row) → Meets r → Fits (first (r .checks) (r .otherwise))
+  by-row r m = through Fits (r .checks) (r .otherwise) m
+
 module _ (log : List Deed) (connection room : ℕ) (text : List ℕ) (c : connection ≤ 7) where
   abbrev asks : Call
   asks = line connection room text
@@ -76,115 +96,56 @@ module _ (log : List Deed) (connection room : ℕ) (text : List ℕ) (c : connec
 
   set-IR-did : Meets log asks (set-IR log connection text)
   unfolding set-IR
-  set-IR-did = (
-    λ _. nothing,
-    λ _. (
-      λ _. nothing,
-      λ _. (
-        λ _. nothing,
-        λ port. (
-          λ _. nothing,
-          λ mode. (
-            λ _. nothing,
-            λ _. (
-              λ _. nothing,
-              λ _. (
-                λ _. nothing,
-                λ air.
-                    cond-case (Did log asks) (same (modeOf p log) (field log connection text 2)) [] _
-                    (λ _. nothing) (λ _. changes p _ (port-is port) (mode-of _ mode) (none-of (onAir p log) air)),
-              ),
-            ),
-          ),
-        ),
-      ),
-    ),
-  )
+  set-IR-did =
+      past nothing (λ _. past nothing (λ _. past nothing (λ port. past nothing (λ mode. past nothing (λ _. past nothing (λ _. past nothing (λ air.
+      cond-case (Did log asks) (same (modeOf p log) (field log connection text 2)) [] _
+      (λ _. nothing) (λ _. changes p _ (port-is port) (mode-of _ mode) (none-of (onAir p log) air)))))))))
 
   setstate-did : Meets log asks (setstate log connection text)
   unfolding setstate
-  setstate-did = (
-    λ _. nothing,
-    λ _. (
-      λ _. nothing,
-      λ _. (
-        λ _. nothing,
-        λ port. (
-          λ _. nothing,
-          λ state. (
-            λ _. nothing,
-            λ _.
-                switches p _ (port-is port) (within-is 0 1 (field log connection text 2) state .1),
-          ),
-        ),
-      ),
-    ),
-  )
+  setstate-did =
+      past nothing (λ _. past nothing (λ _. past nothing (λ port. past nothing (λ state. past nothing (λ _.
+      switches p _ (port-is port) (within-is 0 1 (field log connection text 2) state .1))))))
 
   getstate-did : Meets log asks (getstate log connection text)
   unfolding getstate
   getstate-did =
-      (λ _. nothing, λ _. (λ _. nothing, λ _. (λ _. nothing, λ _. (λ _. nothing, λ _. (λ _. nothing, λ _. (λ _. nothing, λ _. (λ _. nothing, λ _. nothing)))))))
+      past nothing (λ _. past nothing (λ _. past nothing (λ _. past nothing (λ _. past nothing (λ _. past nothing (λ _. past nothing (λ _. nothing)))))))
 
   stopir-did : Meets log asks (stopir log connection text)
   unfolding stopir
   stopir-did =
-      (λ _. nothing, λ _. (λ _. nothing, λ _. (λ _. nothing, λ port. (λ _. nothing, λ _. (λ _. nothing, λ mode. halts p (port-is port) mode)))))
+      past nothing (λ _. past nothing (λ _. past nothing (λ port. past nothing (λ _. past nothing (λ mode. halts p (port-is port) mode)))))
 
   sendir-did : Meets log asks (sendir log connection text)
   unfolding sendir
-  sendir-did = (
-    λ _. nothing,
-    λ _. (
-      λ _. nothing,
-      λ _. (
-        λ _. nothing,
-        λ port. (
-          λ _. nothing,
-          λ mode. (
-            λ _. nothing,
-            λ id. (
-              λ _. nothing,
-              λ freq. (
-                λ _. nothing,
-                λ repeat. (
-                  λ _. nothing,
-                  λ _. (
-                    λ _. nothing,
-                    λ _. (
-                      λ _. nothing,
-                      λ offset.
-                          let limits : Limits _ (codeIn _ _ .pairs) =
-                          record {
-                            id-most = within-is 0 65535 (field log connection text 2) id .1;
-                            freq-least = within-is 15000 500000 (field log connection text 3) freq .0;
-                            freq-most = within-is 15000 500000 (field log connection text 3) freq .1;
-                            repeat-least = capped-least _ (within-is 1 999999 (field log connection text 4) repeat .0);
-                            repeat-most = capped-most (number (field log connection text 4));
-                            offset-most = ltb-true _ _ (not-false _ offset);
-                          } in (
-                            λ air. starts p connection room text _ _ refl c (port-is port) mode limits (inl (none-of (onAir p log) (not-true _ air))),
-                            λ air. (
-                              λ _. nothing,
-                              λ own.
-                                  let mine = owner-is connection (ownerOf p log) (not-false _ own) in
-                                  let running = some-of (onAir p log) (not-false _ air) in (
-                                    λ _. renews p connection room text (running .0) refl c (port-is port) mode (running .1) mine,
-                                    λ _.
-                                        starts p connection room text _ _ refl c (port-is port) mode limits (inr mine),
-                                  ),
-                            ),
-                          ),
-                    ),
-                  ),
-                ),
-              ),
-            ),
-          ),
-        ),
-      ),
-    ),
-  )
+  sendir-did =
+      past nothing (λ _. past nothing (λ _. past nothing (λ port. past nothing (λ mode.
+      past nothing (λ id. past nothing (λ freq. past nothing (λ repeat. past nothing (λ odd. past nothing (λ _. past nothing (λ offset.
+      let limits : Limits _ (codeIn _ _ .pairs) =
+      record {
+        id-most = within-is 0 65535 (field log connection text 2) id .1;
+        freq-least = within-is 15000 500000 (field log connection text 3) freq .0;
+        freq-most = within-is 15000 500000 (field log connection text 3) freq .1;
+        repeat-least = capped-least _ (within-is 1 999999 (field log connection text 4) repeat .0);
+        repeat-most = capped-most (number (field log connection text 4));
+        offset-least = within-is 1 383 (field log connection text 5) (or-left _ _ odd) .0;
+        offset-most = within-is 1 383 (field log connection text 5) (or-left _ _ odd) .1;
+        offset-odd = is-odd (number (field log connection text 5)) (or-right (not (within 1 383 (field log connection text 5))) _ odd);
+        offset-within = ltb-true _ _ (not-false _ offset);
+        pairs-most = code-pairs (number (field log connection text 3)) (behind 44 6 text) .few;
+        pairs-fit = code-pairs (number (field log connection text 3)) (behind 44 6 text) .fit;
+      } in (
+        λ air. starts p connection room text _ _ refl c (port-is port) mode limits (inl (none-of (onAir p log) (not-true _ air))),
+        λ air.
+            past nothing (λ own.
+            let mine = owner-is connection (ownerOf p log) (not-false _ own) in
+            let running = some-of (onAir p log) (not-false _ air) in (
+              λ _. renews p connection room text (running .0) refl c (port-is port) mode (running .1) mine,
+              λ _.
+                  starts p connection room text _ _ refl c (port-is port) mode limits (inr mine),
+            )),
+      )))))))))))
     where
       capped-least : (n : ℕ) → 1 ≤ n → 1 ≤ cond (ltb 20 n) 20 n
       capped-least n h = cond-case (λ (k : ℕ). 1 ≤ k) (ltb 20 n) 20 n (λ _. omega arith) (λ _. h)
@@ -196,10 +157,10 @@ module _ (log : List Deed) (connection room : ℕ) (text : List ℕ) (c : connec
   unfolding getdevices getversion get-IR
   request-did =
       by-rows log connection text (Meets log asks)
-      (λ _. nothing, λ _. nothing)
-      (λ _. nothing, λ _. nothing)
+      (past nothing (λ _. nothing))
+      (past nothing (λ _. nothing))
       set-IR-did
-      (λ _. nothing, λ _. (λ _. nothing, λ _. (λ _. nothing, λ _. (λ _. nothing, λ _. nothing))))
+      (past nothing (λ _. past nothing (λ _. past nothing (λ _. past nothing (λ _. nothing)))))
       setstate-did
       getstate-did
       sendir-did
@@ -209,22 +170,24 @@ module _ (log : List Deed) (connection room : ℕ) (text : List ℕ) (c : connec
 -- a call over any log did nothing, or one of the deeds that `Did` lists
 pub did : (log : List Deed) (call : Call) → Did log call (deedsOf (judge log call))
 did log (line connection room text) =
-    let asked = request log connection text in
     by-line log connection text (Fits log (line connection room text)) room nothing nothing nothing nothing
-    (λ c. through (Fits log (line connection room text)) (asked .checks) (asked .otherwise) (request-did log connection room text c))
+    (λ c. by-row log (line connection room text) (request log connection text) (request-did log connection room text c))
 did log (overlong connection room) =
-    through (Fits log (overlong connection room)) (rowOf log (overlong connection room) .checks) (rowOf log (overlong connection room) .otherwise) (λ _. nothing, λ _. (λ _. nothing, λ _. nothing))
+    let call = overlong connection room in
+    by-row log call (rowOf log call) (past nothing (λ _. past nothing (λ _. nothing)))
 did log (reading q value) =
-    through (Fits log (reading q value)) (rowOf log (reading q value) .checks) (rowOf log (reading q value) .otherwise) (
-      λ _. nothing,
-      λ e.
-          let all = not-false _ e in
-          let front = and-left (between 1 3 q && is "SENSOR" (modeOf q log)) (between 0 1 value) all in
-          let port = between-is 1 3 q (and-left (between 1 3 q) (is "SENSOR" (modeOf q log)) front) in
-          let mode = and-right (between 1 3 q) (is "SENSOR" (modeOf q log)) front in
-          let small = between-is 0 1 value (and-right (between 1 3 q && is "SENSOR" (modeOf q log)) (between 0 1 value) all) .1 in
-          reads q value refl (record { least = port .0; most = port .1 }) mode small,
-    )
+    let call = reading q value in
+    by-row log call (rowOf log call)
+    (past nothing (λ e.
+    let all = not-false _ e in
+    let front = and-left (between 1 3 q && is "SENSOR" (modeOf q log)) (between 0 1 value) all in
+    let port = between-is 1 3 q (and-left (between 1 3 q) (is "SENSOR" (modeOf q log)) front) in
+    let mode = and-right (between 1 3 q) (is "SENSOR" (modeOf q log)) front in
+    let small = between-is 0 1 value (and-right (between 1 3 q && is "SENSOR" (modeOf q log)) (between 0 1 value) all) .1 in
+    reads q value refl (record { least = port .0; most = port .1 }) mode small))
 did log (closing connection) =
-    through (Fits log (closing connection)) (rowOf log (closing connection) .checks) (rowOf log (closing connection) .otherwise) (λ _. nothing, λ e. leaves connection refl (ltb-false 7 connection e))
-did log (waiting n) = through (Fits log (waiting n)) (rowOf log (waiting n) .checks) (rowOf log (waiting n) .otherwise) (λ _. nothing, λ e. passes n refl (ltb-false 1000000000 n e))
+    let call = closing connection in
+    by-row log call (rowOf log call) (past nothing (λ e. leaves connection refl (ltb-false 7 connection e)))
+did log (waiting n) =
+    let call = waiting n in
+    by-row log call (rowOf log call) (past nothing (λ e. passes n refl (ltb-false 1000000000 n e)))

@@ -6,20 +6,18 @@ use mathlib.Core.Bool.{Bool, true, false, cond, not, _&&_}
 use mathlib.Core.List.{List, [], _∷_, _++_}
 use mathlib.Core.Option.{Option, Option·map}
 use native.Mathlib.Nat.{add-assoc, add-zero}
-use native.Mathlib.Omega.{arith}
 use borrow.Author.Tests.{not-true}
 use lib.Dec.{ltb, eqb}
 use lib.ListN.{take}
 use Rattle.laws.specs.Bytes.{bytes}
 use Rattle.laws.specs.Checks.{holds}
 use Rattle.laws.specs.Lists.{all, same}
-use Rattle.laws.proofs.Choice.{not-both}
+use Rattle.laws.proofs.Choice.{clash, not-both}
 use Rattle.laws.proofs.Checks.{first-all}
 use Rattle.meaning.specs.Time.{Transmission, carrier}
 use Rattle.meaning.specs.Time as time
 use Rattle.meaning.specs.Log.{Deed, passed, setting, switched, event, changed, felt, started, renewed, halted, left, now, modeOf, contactOf, relayOf, lastOf, ownerOf, onAir, until}
 use Rattle.meaning.specs.Table.{refused, taken, replied, Judged, refusal, error, does, Row, row, no, Call, line, overlong, reading, closing, waiting, answerOf, deedsOf, rowOf, judge, logged, dueOf, due, ordered, completions, carriers, Said, said, getdevices, getversion, set-IR, get-IR, setstate, getstate, sendir, stopir, request}
-use Rattle.meaning.specs.Table as table
 use Rattle.theorems.specs.Later.{Alike}
 use Rattle.theorems.proofs.Rows.{by-rows}
 
@@ -218,8 +216,8 @@ refused-changes-nothing log call n e = go (judge log call) (call-honest log call
     go (refusal m) h e = refl
     go (error m r p) h e = refl
     go (does (refused m) deeds) h e = not-both h refl
-    go (does (taken l) deeds) h e = let z : _≡_ {A = ℕ} 0 1 = cc in absurd (omega arith)
-    go (does (replied words told) deeds) h e = let z : _≡_ {A = ℕ} 0 1 = cc in absurd (omega arith)
+    go (does (taken l) deeds) h e = clash (cc)
+    go (does (replied words told) deeds) h e = clash (cc)
 
 -- and so does a line that is answered with an error
 pub error-changes-nothing : (log : List Deed) (call : Call) (words : List ℕ) (told : Option ℕ) → answerOf (judge log call) ≡ replied words told
@@ -230,7 +228,7 @@ error-changes-nothing log call words told e s = go (judge log call) (call-honest
     go (refusal m) h e = refl
     go (error m r p) h e = refl
     go (does (refused m) deeds) h e = not-both h refl
-    go (does (taken l) deeds) h e = let z : _≡_ {A = ℕ} 0 1 = cc in absurd (omega arith)
+    go (does (taken l) deeds) h e = clash (cc)
     go (does (replied text to) deeds) h e = let f : text ≡ words = cc in not-both s (not-true _ (rw f at h))
 
 pub refused-then-same-said : (log : List Deed) (call : Call) (n : ℕ) (l : List Call) → answerOf (judge log call) ≡ refused n

@@ -5,10 +5,9 @@ use mathlib.Core.Bool.{true, cond}
 use mathlib.Core.List.{List, [], _∷_, _++_, append-nil}
 use mathlib.Core.Logic.{_⊎_, inl, inr, ⊎-elim}
 use mathlib.Core.Option.{Option, none, some}
-use native.Mathlib.Omega.{arith}
 use borrow.Author.Tests.{eq-eqb, eqb-true, le-ltb}
 use lib.Dec.{eqb}
-use Rattle.laws.proofs.Choice.{by-test, not-both}
+use Rattle.laws.proofs.Choice.{clash, by-test, not-both}
 use Rattle.words.specs.declared.Pair.{Pair}
 use Rattle.words.specs.declared.Fields.{Fields}
 use Rattle.meaning.specs.Log.{Deed, passed, setting, switched, event, started, renewed, halted, left, isOwner, ownerOf}
@@ -18,7 +17,7 @@ use Rattle.theorems.specs.Owners.{StartedBy, StartedAfter}
 use Rattle.theorems.proofs.Deeds.{did}
 
 nobody : {A : Type 0} {c : ℕ} → none ≡ some c → A
-nobody e = let z : _≡_ {A = ℕ} 0 1 = cc in absurd (omega arith)
+nobody e = clash (cc)
 
 -- "starts with the sender as owner"
 pub sender-owns : (log : List Deed) (p c : ℕ) (f : Fields) (ps : List Pair) → ownerOf p (event (started p c f ps) ∷ log) ≡ some c

@@ -7,7 +7,7 @@ use lib.Dec.{ltb}
 use lib.ListN.{length}
 use Rattle.laws.specs.Checks.{_⇒_, first, between}
 use Rattle.laws.specs.Lists.{all}
-use Rattle.laws.proofs.Checks.{through}
+use Rattle.laws.proofs.Checks.{through, past}
 use Rattle.meaning.specs.Line.{is}
 use Rattle.meaning.specs.Log.{Deed}
 use Rattle.meaning.specs.Table.{Judged, refusal, Row, row, no, line, heard, judge, field, getdevices, getversion, set-IR, get-IR, setstate, getstate, sendir, stopir, request}
@@ -29,7 +29,7 @@ module _ (log : List Deed) (connection : ℕ) (s : List ℕ) where
       ∷ (is "sendir" name ⇒ sendir log connection s)
       ∷ (is "stopir" name ⇒ stopir log connection s)
       ∷ []) (row [] (no 1))
-      (λ _. devices, λ _. (λ _. version, λ _. (λ _. sets, λ _. (λ _. gets, λ _. (λ _. states, λ _. (λ _. state, λ _. (λ _. sends, λ _. (λ _. stops, λ _. unknown))))))))
+      (past devices (λ _. past version (λ _. past sets (λ _. past gets (λ _. past states (λ _. past state (λ _. past sends (λ _. past stops (λ _. unknown)))))))))
 
   pub by-line : (P : Judged → Type 0) (room : ℕ) → P (refusal 102) → P (refusal 101) → P (no 15) → P (no 1)
       → (connection ≤ 7 → P (first (request log connection s .checks) (request log connection s .otherwise)))
@@ -37,4 +37,4 @@ module _ (log : List Deed) (connection : ℕ) (s : List ℕ) where
   by-line P room a b c d asked =
       through P (heard connection room ((ltb 4096 (length s) ⇒ no 15) ∷ (not (all (between 32 126) s) ⇒ no 1) ∷ []))
       (first (request log connection s .checks) (request log connection s .otherwise))
-      (λ _. a, λ most. (λ _. b, λ _. (λ _. c, λ _. (λ _. d, λ _. asked (ltb-false 7 connection most)))))
+      (past a (λ most. past b (λ _. past c (λ _. past d (λ _. asked (ltb-false 7 connection most))))))

@@ -8,7 +8,7 @@ use native.Mathlib.Nat.{add-mul, div-lt-iff-lt-mul, lt-div-mul-add, mul-le-mul-r
 use native.Mathlib.Omega.{arith}
 use borrow.Author.Tests.{le-leb, lt-leb, leb-true, leb-false}
 use lib.Dec.{leb, eqb}
-use Rattle.laws.proofs.Choice.{cond-case, by-test, not-both}
+use Rattle.laws.proofs.Choice.{clash, cond-case, by-test, not-both}
 use Rattle.meaning.specs.Time.{Transmission, total, done, complete, firstMicro, finish}
 use Rattle.meaning.specs.Time as time
 use Rattle.meaning.specs.Log.{Deed, now, lastOf, onAir, until}
@@ -99,10 +99,10 @@ unfolding onAir
 on-air-is p log s e = go (lastOf p log) e
   where
     go : (o : Option Transmission) → until (now log) o ≡ some s → (o ≡ some s) × (complete s (now log) ≡ false)
-    go none e = let z : _≡_ {A = ℕ} 0 1 = cc in absurd (omega arith)
+    go none e = clash (cc)
     go (some r) e =
         by-test (complete r (now log))
-        (λ t. let f : none ≡ some s = rw t at e in let z : _≡_ {A = ℕ} 0 1 = cc in absurd (omega arith))
+        (λ t. let f : none ≡ some s = rw t at e in clash (cc))
         (λ t. let f : some r ≡ some s = rw t at e in let g : r ≡ s = cc in (f, rw (← g) t))
 
 -- what is off the air stays so as time passes

@@ -1,12 +1,15 @@
 -- What a call may have done, and what held when it was done.
-use Prim.Native.Nat.{ℕ, _*_, _≤_, _<_}
+use Prim.Native.Nat.{ℕ, _*_, _%_, _≤_, _<_}
 use mathlib.Core.Path.{_≡_}
-use mathlib.Core.Bool.{Bool, true, false}
+use mathlib.Core.Bool.{Bool, true, false, _&&_}
 use mathlib.Core.List.{List, [], _∷_}
 use mathlib.Core.Logic.{_⊎_}
 use mathlib.Core.Option.{none, some}
+use lib.Dec.{leb}
 use lib.ListN.{length}
 use Rattle.laws.specs.Bytes.{bytes}
+use Rattle.laws.specs.Checks.{between}
+use Rattle.laws.specs.Lists.{all}
 use Rattle.words.specs.declared.Pair.{Pair}
 use Rattle.words.specs.declared.Fields.{Fields}
 use Rattle.meaning.specs.Line.{is}
@@ -25,14 +28,27 @@ pub data ModeWord (word : List ℕ) : Type 0 where
   sensor : word ≡ bytes "SENSOR" → ModeWord word
   blaster : word ≡ bytes "IR_BLASTER" → ModeWord word
 
--- "id 0 to 65535; freq 15000 to 500000 Hz; repeat 1 to 999999, and above 20 is taken as 20"; "offset is at most twice the number of pairs, less one"
+-- "Each count is 4 to 50000 and lasts at least 80 µs: 12,500 × count is at least freq."
+abbrev pub countFits : ℕ → ℕ → Bool
+countFits freq n = between 4 50000 n && leb freq (12500 * n)
+
+abbrev pub pairFits : ℕ → Pair → Bool
+pairFits freq x = countFits freq (x .on) && countFits freq (x .off)
+
+-- "id 0 to 65535; freq 15000 to 500000 Hz; repeat 1 to 999999, and above 20 is taken as 20; offset odd, 1 to 383"; "1 to 260 pairs"; "The offset is
+-- at most twice the number of pairs, less one"
 pub record Limits (f : Fields) (ps : List Pair) : Type 0 where
   pub id-most : f .id ≤ 65535
   pub freq-least : 15000 ≤ f .freq
   pub freq-most : f .freq ≤ 500000
   pub repeat-least : 1 ≤ f .repeat
   pub repeat-most : f .repeat ≤ 20
-  pub offset-most : f .offset < 2 * length ps
+  pub offset-least : 1 ≤ f .offset
+  pub offset-most : f .offset ≤ 383
+  pub offset-odd : f .offset % 2 ≡ 1
+  pub offset-within : f .offset < 2 * length ps
+  pub pairs-most : length ps ≤ 260
+  pub pairs-fit : all (pairFits (f .freq)) ps ≡ true
 
 abbrev pub inSensor : ℕ → List Deed → Bool
 inSensor p log = is "SENSOR" (modeOf p log)

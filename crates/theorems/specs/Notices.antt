@@ -1,5 +1,5 @@
 -- The notices that a connector's transmissions give over many calls, the first of them first.
-use Prim.Native.Nat.{ℕ, _+_}
+use Prim.Native.Nat.{ℕ, zero, suc, _+_}
 use mathlib.Core.Path.{_≡_}
 use mathlib.Core.Bool.{Bool, true, false, cond, not}
 use mathlib.Core.List.{List, [], _∷_, _++_}
@@ -11,7 +11,7 @@ use Rattle.meaning.specs.Line as text
 use Rattle.meaning.specs.Line.{addressed}
 use Rattle.meaning.specs.Time.{Transmission, finish}
 use Rattle.meaning.specs.Log.{Deed, passed, setting, switched, event, started, renewed, halted, left, now}
-use Rattle.meaning.specs.Table.{Completion, Answer, refused, taken, replied, Call, answerOf, deedsOf, judge, logged}
+use Rattle.meaning.specs.Table.{Completion, Answer, refused, taken, replied, Call, waiting, answerOf, deedsOf, judge, logged}
 
 -- a notice, at a moment from the start of the history
 pub record Notice : Type 0 where
@@ -76,3 +76,8 @@ LeftAlone p log l = Never (touches p) log l
 -- none of them starts one
 abbrev pub Unstarted : ℕ → List Deed → List Call → Type 0
 Unstarted p log l = Never (startsOn p) log l
+
+-- so many waits of 1,000,000,000 microseconds, the longest
+abbrev pub longestWaits : ℕ → List Call
+longestWaits zero = []
+longestWaits (suc k) = waiting 1000000000 ∷ longestWaits k

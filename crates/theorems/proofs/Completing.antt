@@ -164,12 +164,12 @@ data Way (log : List Deed) : Judged → Type 0 where
 
 did-now : (log : List Deed) (call : Call) → ((n : ℕ) → call ≡ waiting n → ⊥) → (ds : List Deed) → Did log call ds → now (ds ++ log) ≡ now log
 did-now log call w ds nothing = refl
-did-now log call w ds (changes r word _ _ _) = refl
+did-now log call w ds (changes r c word _ _ _ _ _) = refl
 did-now log call w ds (reads r v _ _ _ _) = refl
-did-now log call w ds (switches r v _ _) = refl
-did-now log call w ds (starts r c room text f ps _ _ _ _ _ _) = refl
-did-now log call w ds (renews r c room text s _ _ _ _ _ _) = refl
-did-now log call w ds (halts r _ _) = refl
+did-now log call w ds (switches r c v _ _ _) = refl
+did-now log call w ds (starts r c f ps _ _ _ _ _) = refl
+did-now log call w ds (renews r c s _ _ _ _ _) = refl
+did-now log call w ds (halts r c _ _ _) = refl
 did-now log call w ds (leaves c _ _) = refl
 did-now log call w ds (passes n e _) = absurd (w n e)
 
@@ -267,15 +267,15 @@ silent-on : (h : List Call) (p : ℕ) (call : Call) (ds : List Deed) → Did (lo
     → all (λ d. not (startsOn p d)) ds ≡ true → onAir p (ds ++ logOf h) ≡ none
 unfolding onAir
 silent-on h p call ds nothing e a = e
-silent-on h p call ds (changes r word _ _ _) e a = e
+silent-on h p call ds (changes r c word _ _ _ _ _) e a = e
 silent-on h p call ds (reads r v _ _ _ _) e a = e
-silent-on h p call ds (switches r v _ _) e a = e
-silent-on h p call ds (starts r c room text f ps _ _ _ _ _ _) e a = rw (not-true (eqb r p) (and-left (not (eqb r p)) true a)) e
-silent-on h p call ds (renews r c room text s _ _ _ _ air _) e a =
+silent-on h p call ds (switches r c v _ _ _) e a = e
+silent-on h p call ds (starts r c f ps _ _ _ _ _) e a = rw (not-true (eqb r p) (and-left (not (eqb r p)) true a)) e
+silent-on h p call ds (renews r c s _ _ _ air _) e a =
     by-test (eqb r p)
     (λ t. let same : r ≡ p = eqb-true r p t in let f : none ≡ some s = sym e ∙ ap (λ q. onAir q (logOf h)) (sym same) ∙ air in clash (cc))
     (λ t. rw t e)
-silent-on h p call ds (halts r _ _) e a = by-test (eqb r p) (λ t. rw t) (λ t. rw t e)
+silent-on h p call ds (halts r c _ _ _) e a = by-test (eqb r p) (λ t. rw t) (λ t. rw t e)
 silent-on h p call ds (leaves c _ _) e a = e
 silent-on h p call ds (passes n _ _) e a = none-later (now (logOf h)) n (lastOf p (logOf h)) (last-begun h p) e
 

@@ -309,7 +309,7 @@ module _ (p v : ℕ) where
       go : (ds : List Deed) → deedsOf (judge (logOf h) call) ≡ ds → Did (logOf h) call ds → contactOf p (ds ++ logOf h) ≡ some v
           → (contactOf p (logOf h) ≡ some v → LastReading h p v) → LastReading (call ∷ h) p v
       go ds q nothing e ih = read-later call ds (rw q) refl (ih e)
-      go ds q (changes r word _ _ _) e ih =
+      go ds q (changes r c word _ _ _ _ _) e ih =
           by-test (eqb r p)
           (λ t. let f : none ≡ some v = rw t at e in clash (cc)) (λ t. read-later call ds (rw q) (rw t) (ih (rw t at e)))
       go ds q (reads r u is _ _ small) e ih =
@@ -331,10 +331,10 @@ module _ (p v : ℕ) where
             quiet = refl;
           })
           (λ t. read-later call ds (rw q) (rw t) (ih (rw t at e)))
-      go ds q (switches r u _ _) e ih = read-later call ds (rw q) refl (ih e)
-      go ds q (starts r c room text f ps _ _ _ _ _ _) e ih = read-later call ds (rw q) refl (ih e)
-      go ds q (renews r c room text s _ _ _ _ _ _) e ih = read-later call ds (rw q) refl (ih e)
-      go ds q (halts r _ _) e ih = read-later call ds (rw q) refl (ih e)
+      go ds q (switches r c u _ _ _) e ih = read-later call ds (rw q) refl (ih e)
+      go ds q (starts r c f ps _ _ _ _ _) e ih = read-later call ds (rw q) refl (ih e)
+      go ds q (renews r c s _ _ _ _ _) e ih = read-later call ds (rw q) refl (ih e)
+      go ds q (halts r c _ _ _) e ih = read-later call ds (rw q) refl (ih e)
       go ds q (leaves c _ _) e ih = read-later call ds (rw q) refl (ih e)
       go ds q (passes n _ _) e ih = read-later call ds (rw q) refl (ih e)
 

@@ -1,26 +1,26 @@
 -- What each call may have done, read off its row.
-use Prim.Native.Nat.{ℕ, zero, suc, _%_, _≤_, _<_}
+use Prim.Native.Nat.{ℕ, zero, suc, _%_, _≤_}
 use mathlib.Core.Path.{_≡_, refl, sym, ap}
 use mathlib.Core.Bool.{Bool, true, false, cond, not, _&&_, _||_}
 use mathlib.Core.List.{List, []}
 use mathlib.Core.Logic.{inl, inr}
 use mathlib.Core.Option.{Option, none, some}
 use native.Mathlib.Omega.{arith}
-use borrow.Author.Tests.{ltb-true, ltb-false, leb-true, eqb-true, not-true, not-false}
+use borrow.Author.Tests.{ltb-true, ltb-false, leb-true, eqb-true, eqb-false, not-true, not-false}
 use lib.Dec.{ltb, leb, eqb}
 use lib.ListN.{length}
 use Rattle.laws.specs.Checks.{first, between}
 use Rattle.laws.specs.Lists.{same, part, behind}
-use Rattle.laws.proofs.Choice.{cond-case, by-test, not-both, and-left, and-right}
+use Rattle.laws.proofs.Choice.{cond-case, not-both, and-left, and-right}
 use Rattle.laws.proofs.Checks.{Through, through, past, none-of, some-of}
-use Rattle.laws.proofs.Lists.{same-is}
+use Rattle.laws.proofs.Lists.{same-is, same-self}
 use Rattle.meaning.specs.Line.{is, isNumber, number, within, codeIn}
 use Rattle.meaning.specs.Log.{Deed, isOwner, ownerOf, onAir, modeOf}
 use Rattle.meaning.specs.Table.{Judged, Row, Call, line, overlong, reading, closing, waiting, deedsOf, judge, getdevices, getversion, set-IR, get-IR, setstate, getstate, sendir, stopir, request, field, row, no, rowOf}
 use Rattle.meaning.specs.Table as table
 use Rattle.theorems.proofs.Codes.{code-pairs}
 use Rattle.theorems.proofs.Rows.{by-rows, by-line}
-use Rattle.theorems.specs.Deeds.{Port, ModeWord, ir, sensor, blaster, Limits, Did, nothing, changes, reads, switches, starts, renews, halts, leaves, passes}
+use Rattle.theorems.specs.Deeds.{Port, LineOf, ModeWord, ir, sensor, blaster, Limits, Did, nothing, changes, reads, switches, starts, renews, halts, leaves, passes}
 
 -- ---- a port is 1, 2 or 3
 pub ports : (p : ℕ) → Port p → (P : ℕ → Type 0) → P 1 → P 2 → P 3 → P p
@@ -59,18 +59,14 @@ or-right true b e = not-both refl e
 or-right false b e = e
 
 is-odd : (n : ℕ) → eqb (n % 2) 0 ≡ false → n % 2 ≡ 1
-is-odd n e = by-test (eqb (n % 2) 1) (λ t. eqb-true (n % 2) 1 t) (λ t. absurd (two (n % 2) (omega arith) e t))
-  where
-    two : (k : ℕ) → k < 2 → eqb k 0 ≡ false → eqb k 1 ≡ false → ⊥
-    two zero h e t = not-both refl e
-    two (suc zero) h e t = not-both refl t
-    two (suc (suc k)) h e t = omega arith
+is-odd n e = let h = eqb-false (n % 2) 0 e in omega arith
 
-mode-of : (word : List ℕ) → not (is "IR" word || is "SENSOR" word || is "IR_BLASTER" word) ≡ false → ModeWord word
-mode-of word e =
+mode-of : (p : ℕ) (word : List ℕ) → not (is "IR" word || is "SENSOR" word || is "IR_BLASTER" word) ≡ false
+    → (is "IR_BLASTER" word && not (eqb p 3)) ≡ false → ModeWord p word
+mode-of p word e f =
     or-cases (is "IR" word || is "SENSOR" word) (is "IR_BLASTER" word) (not-false _ e)
     (λ a. or-cases (is "IR" word) (is "SENSOR" word) a (λ b. ir (sym (same-is _ word b))) (λ b. sensor (sym (same-is _ word b))))
-    (λ a. blaster (sym (same-is _ word a)))
+    (λ a. blaster (sym (same-is _ word a)) (eqb-true p 3 (not-false (eqb p 3) (rw a at f))))
 
 -- ---- the rows
 
@@ -91,21 +87,27 @@ module _ (log : List Deed) (connection room : ℕ) (text : List ℕ) (c : connec
   abbrev p : ℕ
   p = table.p log connection text
 
+  asked : LineOf connection asks
+  asked = record { room = room; text = text; is = refl; most = c }
+
   port-is : not (within 1 3 (part 58 1 (field log connection text 1))) ≡ false → Port p
   port-is e = let w = within-is 1 3 _ e in record { least = w .0; most = w .1 }
 
   set-IR-did : Meets log asks (set-IR log connection text)
   unfolding set-IR
   set-IR-did =
-      past nothing (λ _. past nothing (λ _. past nothing (λ port. past nothing (λ mode. past nothing (λ _. past nothing (λ _. past nothing (λ air.
-      cond-case (Did log asks) (same (modeOf p log) (field log connection text 2)) [] _
-      (λ _. nothing) (λ _. changes p _ (port-is port) (mode-of _ mode) (none-of (onAir p log) air)))))))))
+      past nothing (λ _. past nothing (λ _. past nothing (λ port. past nothing (λ mode. past nothing (λ third. past nothing (λ _. past nothing (λ air.
+      let word = field log connection text 2 in
+      cond-case (Did log asks) (same (modeOf p log) word) [] _
+      (λ _. nothing)
+      (λ other. changes p connection word asked (port-is port) (mode-of p word mode third)
+      (λ e. not-both (rw e (same-self word)) other) (none-of (onAir p log) air)))))))))
 
   setstate-did : Meets log asks (setstate log connection text)
   unfolding setstate
   setstate-did =
       past nothing (λ _. past nothing (λ _. past nothing (λ port. past nothing (λ state. past nothing (λ _.
-      switches p _ (port-is port) (within-is 0 1 (field log connection text 2) state .1))))))
+      switches p connection _ asked (port-is port) (within-is 0 1 (field log connection text 2) state .1))))))
 
   getstate-did : Meets log asks (getstate log connection text)
   unfolding getstate
@@ -115,7 +117,7 @@ module _ (log : List Deed) (connection room : ℕ) (text : List ℕ) (c : connec
   stopir-did : Meets log asks (stopir log connection text)
   unfolding stopir
   stopir-did =
-      past nothing (λ _. past nothing (λ _. past nothing (λ port. past nothing (λ _. past nothing (λ mode. halts p (port-is port) mode)))))
+      past nothing (λ _. past nothing (λ _. past nothing (λ port. past nothing (λ _. past nothing (λ mode. halts p connection asked (port-is port) mode)))))
 
   sendir-did : Meets log asks (sendir log connection text)
   unfolding sendir
@@ -136,14 +138,14 @@ module _ (log : List Deed) (connection room : ℕ) (text : List ℕ) (c : connec
         pairs-most = code-pairs (number (field log connection text 3)) (behind 44 6 text) .few;
         pairs-fit = code-pairs (number (field log connection text 3)) (behind 44 6 text) .fit;
       } in (
-        λ air. starts p connection room text _ _ refl c (port-is port) mode limits (inl (none-of (onAir p log) (not-true _ air))),
+        λ air. starts p connection _ _ asked (port-is port) mode limits (inl (none-of (onAir p log) (not-true _ air))),
         λ air.
             past nothing (λ own.
             let mine = owner-is connection (ownerOf p log) (not-false _ own) in
             let running = some-of (onAir p log) (not-false _ air) in (
-              λ _. renews p connection room text (running .0) refl c (port-is port) mode (running .1) mine,
+              λ _. renews p connection (running .0) asked (port-is port) mode (running .1) mine,
               λ _.
-                  starts p connection room text _ _ refl c (port-is port) mode limits (inr mine),
+                  starts p connection _ _ asked (port-is port) mode limits (inr mine),
             )),
       )))))))))))
     where

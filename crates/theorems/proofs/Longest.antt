@@ -103,16 +103,16 @@ waits-last (suc k) log = omega (arith, waits-last k (passed 1000000000 ∷ log))
 started-within : {log : List Deed} {call : Call} {ds : List Deed} (p c : ℕ) (f : Fields) (ps : List Pair) → Did log call ds
     → ds ≡ event (started p c f ps) ∷ [] → Port p × Limits f ps
 started-within p c f ps nothing e = clash (cc)
-started-within p c f ps (changes r word _ _ _) e = clash (cc)
+started-within p c f ps (changes r b word _ _ _ _ _) e = clash (cc)
 started-within p c f ps (reads r v _ _ _ _) e = clash (cc)
-started-within p c f ps (switches r v _ _) e = clash (cc)
-started-within p c f ps (starts r b room text g qs _ _ port _ limits _) e =
+started-within p c f ps (switches r b v _ _ _) e = clash (cc)
+started-within p c f ps (starts r b g qs _ port _ limits _) e =
     let a : r ≡ p = cc in
     let x : g ≡ f = cc in
     let y : qs ≡ ps = cc in
     (rw (← a) port, rw (← x, ← y) limits)
-started-within p c f ps (renews r b room text s _ _ _ _ _ _) e = clash (cc)
-started-within p c f ps (halts r _ _) e = clash (cc)
+started-within p c f ps (renews r b s _ _ _ _ _) e = clash (cc)
+started-within p c f ps (halts r b _ _ _) e = clash (cc)
 started-within p c f ps (leaves b _ _) e = clash (cc)
 started-within p c f ps (passes n _ _) e = clash (cc)
 

@@ -1,18 +1,22 @@
 -- A wait's completions are in their order, none is lost and none is doubled, and they are at most three.
-use Prim.Native.Nat.{ℕ, suc, _≤_, _<_}
-use mathlib.Core.Path.{_≡_, refl, ap, _∙_}
+use Prim.Native.Nat.{ℕ, suc, _+_, _-_, _≤_, _<_}
+use mathlib.Core.Path.{_≡_, refl, sym, ap, _∙_, subst}
 use mathlib.Core.Bool.{Bool, true, false, cond}
 use mathlib.Core.List.{List, [], _∷_, _++_, Perm, Perm·refl, Perm·cons, Perm·swap, Perm·trans}
 use mathlib.Core.Option.{Option, none, some}
 use native.Mathlib.Omega.{arith}
-use borrow.Author.Tests.{ltb-true, ltb-false, eqb-true, ne-eqb}
+use borrow.Author.Tests.{ltb-true, ltb-false, leb-true, leb-false, le-leb, eqb-true, ne-eqb}
 use lib.Dec.{ltb, eqb}
 use lib.ListN.{length, length-append}
-use Rattle.laws.proofs.Choice.{cond-case, by-test}
-use Rattle.meaning.specs.Time.{Transmission, complete}
-use Rattle.meaning.specs.Log.{Deed, now, ownerOf, onAir}
-use Rattle.meaning.specs.Table.{Completion, dueOf, due, inserted, ordered, completions}
+use Rattle.laws.specs.Checks.{between}
+use Rattle.laws.specs.Lists.{all}
+use Rattle.laws.proofs.Choice.{cond-case, by-test, and-left, and-right, and-true}
+use Rattle.laws.proofs.Lists.{all-append}
+use Rattle.meaning.specs.Time.{Transmission, complete, finish}
+use Rattle.meaning.specs.Log.{Deed, now, lastOf, ownerOf, onAir}
+use Rattle.meaning.specs.Table.{Completion, dueOf, due, inserted, ordered, completions, Call, logOf}
 use Rattle.theorems.specs.Order.{Sorted, atMoment}
+use Rattle.theorems.proofs.Times.{Begun, begun-later, complete-is, BegunBy, last-begun, on-air-is}
 
 -- ---- sorted by moment
 behind : (x : Completion) (l : List Completion) → Sorted (x ∷ l) → Sorted l
@@ -114,3 +118,47 @@ module _ (n : ℕ) (log : List Deed) where
         due-at-most-one 2,
         due-at-most-one 3,
       ))
+
+-- ---- within the wait
+module _ (test : Completion → Bool) where
+  all-inserted : (x : Completion) (l : List Completion) → test x ≡ true → all test l ≡ true → all test (inserted x l) ≡ true
+  all-inserted x [] e f = and-true (test x) true e refl
+  all-inserted x (y ∷ l) e f =
+      let first = and-left (test y) (all test l) f in
+      cond-case (λ (m : List Completion). all test m ≡ true) (ltb (y .moment) (x .moment)) (y ∷ inserted x l) (x ∷ y ∷ l)
+      (λ _. and-true (test y) _ first (all-inserted x l e (and-right (test y) (all test l) f)))
+      (λ _. and-true (test x) _ e f)
+
+  all-ordered : (l : List Completion) → all test l ≡ true → all test (ordered l) ≡ true
+  all-ordered [] e = refl
+  all-ordered (x ∷ l) e =
+      all-inserted x (ordered l) (and-left (test x) (all test l) e) (all-ordered l (and-right (test x) (all test l) e))
+
+module _ (h : List Call) (n : ℕ) where
+  abbrev log : List Deed
+  log = logOf h
+
+  abbrev inside : Completion → Bool
+  inside x = between 1 n (x .moment)
+
+  due-inside : (p : ℕ) → all inside (due n log p) ≡ true
+  due-inside p = go (onAir p log) (λ s e. on-air-is p log s e)
+    where
+      go : (o : Option Transmission) → ((s : Transmission) → o ≡ some s → (lastOf p log ≡ some s) × (complete s (now log) ≡ false))
+          → all inside (dueOf n (now log) p (ownerOf p log) o) ≡ true
+      go none air = refl
+      go (some s) air =
+          let begun : Begun s (now log) = subst (BegunBy (now log)) (air s refl .0) (last-begun h p) in
+          let before = leb-false (finish s) (now log) (sym (complete-is begun) ∙ air s refl .1) in
+          cond-case (λ (l : List Completion). all inside l ≡ true) (complete s (now log + n)) _ []
+          (λ e.
+          let reached = leb-true (finish s) (now log + n) (sym (complete-is {t = now log + n} (begun-later begun (omega arith))) ∙ e) in
+          rw (le-leb 1 (finish s - now log) (omega arith), le-leb (finish s - now log) n (omega arith)))
+          (λ e. refl)
+
+  -- after every history each completion is at a moment behind the wait's start and not behind its end
+  pub moments-within : all (λ x. between 1 n (x .moment)) (completions n (logOf h)) ≡ true
+  moments-within =
+      all-ordered inside (due n log 1 ++ due n log 2 ++ due n log 3)
+      (all-append inside (due n log 1 ++ due n log 2) (due n log 3)
+      (all-append inside (due n log 1) (due n log 2) (due-inside 1) (due-inside 2)) (due-inside 3))

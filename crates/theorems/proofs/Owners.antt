@@ -111,20 +111,20 @@ module _ (p c : ℕ) where
         go : (ds : List Deed) → deedsOf (judge (logOf (calls ++ h)) call) ≡ ds → Did (logOf (calls ++ h)) call ds
             → ownerOf p (ds ++ logOf (calls ++ h)) ≡ some c → (ownerOf p (logOf (calls ++ h)) ≡ some c → After calls) → After (call ∷ calls)
         go ds q nothing e ih = after-too call calls (ih e)
-        go ds q (changes r word _ _ _) e ih = after-too call calls (ih e)
+        go ds q (changes r b word _ _ _ _ _) e ih = after-too call calls (ih e)
         go ds q (reads r v _ _ _ _) e ih = after-too call calls (ih e)
-        go ds q (switches r v _ _) e ih = after-too call calls (ih e)
-        go ds q (starts r b room text f ps is _ _ _ _ _) e ih =
+        go ds q (switches r b v _ _ _) e ih = after-too call calls (ih e)
+        go ds q (starts r b f ps by _ _ _ _) e ih =
             by-test (eqb r p)
             (λ t.
             let same : some b ≡ some c = rw t at e in
             let g : r ≡ p = eqb-true r p t in
             let k : b ≡ c = cc in
-            let l : call ≡ line c room text = cc in
+            let l : call ≡ line c (by .room) (by .text) = by .is ∙ ap (λ n. line n (by .room) (by .text)) k in
             inl
             (record {
-              room = room;
-              text = text;
+              room = by .room;
+              text = by .text;
               fields = f;
               pairs = ps;
               later = [];
@@ -133,8 +133,8 @@ module _ (p c : ℕ) where
               starts = ap (λ (k : Call). deedsOf (judge (logOf (calls ++ h)) k)) (sym l) ∙ q ∙ rw (g, k);
             }))
             (λ t. after-too call calls (ih (rw t at e)))
-        go ds q (renews r b room text s _ _ _ _ _ _) e ih = after-too call calls (ih e)
-        go ds q (halts r _ _) e ih = by-test (eqb r p) (λ t. nobody (rw t at e)) (λ t. after-too call calls (ih (rw t at e)))
+        go ds q (renews r b s _ _ _ _ _) e ih = after-too call calls (ih e)
+        go ds q (halts r b _ _ _) e ih = by-test (eqb r p) (λ t. nobody (rw t at e)) (λ t. after-too call calls (ih (rw t at e)))
         go ds q (leaves b _ _) e ih =
             by-test (isOwner b (ownerOf p (logOf (calls ++ h)))) (λ t. nobody (rw t at e)) (λ t. after-too call calls (ih (rw t at e)))
         go ds q (passes n _ _) e ih = after-too call calls (ih e)

@@ -17,15 +17,15 @@ did-silent : (h : List Call) (p : ℕ) (call : Call) (ds : List Deed) → Did (l
     → (inSensor p (logOf h) ≡ true → onAir p (logOf h) ≡ none) → inSensor p (ds ++ logOf h) ≡ true → onAir p (ds ++ logOf h) ≡ none
 unfolding onAir
 did-silent h p call ds nothing ih e = ih e
-did-silent h p call ds (changes r word _ _ air) ih e =
+did-silent h p call ds (changes r c word _ _ _ _ air) ih e =
     by-test (eqb r p) (λ t. rw (← eqb-true r p t) air) (λ t. ih (rw t at e))
 did-silent h p call ds (reads r v _ _ _ _) ih e = ih e
-did-silent h p call ds (switches r v _ _) ih e = ih e
-did-silent h p call ds (starts r c room text f ps _ _ _ mode _ _) ih e =
+did-silent h p call ds (switches r c v _ _ _) ih e = ih e
+did-silent h p call ds (starts r c f ps _ _ mode _ _) ih e =
     by-test (eqb r p) (λ t. not-both e (rw (← eqb-true r p t) mode)) (λ t. rw t (ih e))
-did-silent h p call ds (renews r c room text s _ _ _ mode _ _) ih e =
+did-silent h p call ds (renews r c s _ _ mode _ _) ih e =
     by-test (eqb r p) (λ t. not-both e (rw (← eqb-true r p t) mode)) (λ t. rw t (ih e))
-did-silent h p call ds (halts r _ _) ih e = by-test (eqb r p) (λ t. rw t) (λ t. rw t (ih e))
+did-silent h p call ds (halts r c _ _ _) ih e = by-test (eqb r p) (λ t. rw t) (λ t. rw t (ih e))
 did-silent h p call ds (leaves c _ _) ih e = ih e
 did-silent h p call ds (passes n _ _) ih e = none-later (now (logOf h)) n (lastOf p (logOf h)) (last-begun h p) (ih e)
 

@@ -75,16 +75,16 @@ did-begun : (p : ℕ) (log : List Deed) (call : Call) (ds : List Deed) → Did l
     → BegunBy (now (ds ++ log)) (lastOf p (ds ++ log))
 unfolding time.started
 did-begun p log call ds nothing b = b
-did-begun p log call ds (changes r word _ _ _) b = b
+did-begun p log call ds (changes r c word _ _ _ _ _) b = b
 did-begun p log call ds (reads r v _ _ _ _) b = b
-did-begun p log call ds (switches r v _ _) b = b
-did-begun p log call ds (starts r c room text f ps _ _ _ _ limits _) b =
+did-begun p log call ds (switches r c v _ _ _) b = b
+did-begun p log call ds (starts r c f ps _ _ _ limits _) b =
     cond-case (BegunBy (now log)) (eqb r p) (some (time.started f ps (now log))) (lastOf p log)
     (λ _. record { by-then = omega arith; limits = limits }) (λ _. b)
-did-begun p log call ds (renews r c room text s _ _ _ _ _ _) b =
+did-begun p log call ds (renews r c s _ _ _ _ _) b =
     cond-case (BegunBy (now log)) (eqb r p) (Option·map (λ s. time.renewed s (now log)) (lastOf p log)) (lastOf p log)
     (λ _. renewed-begun (now log) (lastOf p log) b) (λ _. b)
-did-begun p log call ds (halts r _ _) b = cond-case (BegunBy (now log)) (eqb r p) none (lastOf p log) (λ _. tt) (λ _. b)
+did-begun p log call ds (halts r c _ _ _) b = cond-case (BegunBy (now log)) (eqb r p) none (lastOf p log) (λ _. tt) (λ _. b)
 did-begun p log call ds (leaves c _ _) b = b
 did-begun p log call ds (passes n _ _) b = later-begun (lastOf p log) (omega arith) b
 

@@ -32,18 +32,18 @@ pub in-sensor-means : (p : ℕ) (log : List Deed) → (inSensor p log ≡ true) 
 in-sensor-means p log = (λ e. sym (same-is _ (modeOf p log) e), λ e. rw e)
 
 -- after every history each connector has one of the three modes
-did-mode : (p : ℕ) (log : List Deed) (call : Call) (ds : List Deed) → Did log call ds → ModeWord (modeOf p log) → ModeWord (modeOf p (ds ++ log))
+did-mode : (p : ℕ) (log : List Deed) (call : Call) (ds : List Deed) → Did log call ds → ModeWord p (modeOf p log) → ModeWord p (modeOf p (ds ++ log))
 did-mode p log call ds nothing m = m
-did-mode p log call ds (changes r word _ is _) m = by-test (eqb r p) (λ t. rw t is) (λ t. rw t m)
+did-mode p log call ds (changes r c word _ _ is _ _) m = by-test (eqb r p) (λ t. rw (t, ← eqb-true r p t) is) (λ t. rw t m)
 did-mode p log call ds (reads r v _ _ _ _) m = m
-did-mode p log call ds (switches r v _ _) m = m
-did-mode p log call ds (starts r c room text f ps _ _ _ _ _ _) m = m
-did-mode p log call ds (renews r c room text s _ _ _ _ _ _) m = m
-did-mode p log call ds (halts r _ _) m = m
+did-mode p log call ds (switches r c v _ _ _) m = m
+did-mode p log call ds (starts r c f ps _ _ _ _ _) m = m
+did-mode p log call ds (renews r c s _ _ _ _ _) m = m
+did-mode p log call ds (halts r c _ _ _) m = m
 did-mode p log call ds (leaves c _ _) m = m
 did-mode p log call ds (passes n _ _) m = m
 
-pub mode-word : (h : List Call) (p : ℕ) → ModeWord (modeOf p (logOf h))
+pub mode-word : (h : List Call) (p : ℕ) → ModeWord p (modeOf p (logOf h))
 mode-word [] p = ir refl
 mode-word (call ∷ h) p = did-mode p (logOf h) call _ (did (logOf h) call) (mode-word h p)
 

@@ -22,11 +22,11 @@ pub record Port (p : ℕ) : Type 0 where
   pub least : 1 ≤ p
   pub most : p ≤ 3
 
--- "modes IR, SENSOR, IR_BLASTER"
-pub data ModeWord (word : List ℕ) : Type 0 where
-  ir : word ≡ bytes "IR" → ModeWord word
-  sensor : word ≡ bytes "SENSOR" → ModeWord word
-  blaster : word ≡ bytes "IR_BLASTER" → ModeWord word
+-- "modes IR, SENSOR, IR_BLASTER", the last on connector 3 alone
+pub data ModeWord (p : ℕ) (word : List ℕ) : Type 0 where
+  ir : word ≡ bytes "IR" → ModeWord p word
+  sensor : word ≡ bytes "SENSOR" → ModeWord p word
+  blaster : word ≡ bytes "IR_BLASTER" → p ≡ 3 → ModeWord p word
 
 -- "Each count is 4 to 50000 and lasts at least 80 µs: 12,500 × count is at least freq."
 abbrev pub countFits : ℕ → ℕ → Bool
@@ -53,25 +53,32 @@ pub record Limits (f : Fields) (ps : List Pair) : Type 0 where
 abbrev pub inSensor : ℕ → List Deed → Bool
 inSensor p log = is "SENSOR" (modeOf p log)
 
+-- a call is a line of this connection, one of 0 to 7
+pub record LineOf (connection : ℕ) (call : Call) : Type 0 where
+  pub room : ℕ
+  pub text : List ℕ
+  pub is : call ≡ line connection room text
+  pub most : connection ≤ 7
+
 -- the deeds of a call over a log: none, or one of the following
 pub data Did (log : List Deed) (call : Call) : List Deed → Type 0 where
   nothing : Did log call []
   -- a line gave connector p another mode, while it transmitted nothing
-  changes : (p : ℕ) (word : List ℕ) → Port p → ModeWord word → onAir p log ≡ none → Did log call (setting p (changed word) ∷ [])
+  changes : (p connection : ℕ) (word : List ℕ) → LineOf connection call → Port p → ModeWord p word → (modeOf p log ≡ word → ⊥)
+      → onAir p log ≡ none → Did log call (setting p (changed word) ∷ [])
   -- contact p was read 0 or 1 in SENSOR
   reads : (p value : ℕ) → call ≡ reading p value → Port p → inSensor p log ≡ true → value ≤ 1 → Did log call (setting p (felt value) ∷ [])
   -- a line switched relay p to 0 or 1
-  switches : (p state : ℕ) → Port p → state ≤ 1 → Did log call (switched p state ∷ [])
-  -- a line of this connection started a command within the limits on connector p, not in SENSOR, where nothing was on air or the connection
-  -- itself owned it
-  starts : (p connection room : ℕ) (text : List ℕ) (f : Fields) (ps : List Pair) → call ≡ line connection room text → connection ≤ 7 → Port p
-      → inSensor p log ≡ false → Limits f ps → (onAir p log ≡ none) ⊎ (ownerOf p log ≡ some connection)
-      → Did log call (event (started p connection f ps) ∷ [])
+  switches : (p connection state : ℕ) → LineOf connection call → Port p → state ≤ 1 → Did log call (switched p state ∷ [])
+  -- a line of this connection started a command within the limits on connector p, not in SENSOR, where nothing was on air or the
+  -- connection itself owned it
+  starts : (p connection : ℕ) (f : Fields) (ps : List Pair) → LineOf connection call → Port p → inSensor p log ≡ false → Limits f ps
+      → (onAir p log ≡ none) ⊎ (ownerOf p log ≡ some connection) → Did log call (event (started p connection f ps) ∷ [])
   -- a line of its owner renewed what connector p transmits
-  renews : (p connection room : ℕ) (text : List ℕ) (s : Transmission) → call ≡ line connection room text → connection ≤ 7 → Port p
-      → inSensor p log ≡ false → onAir p log ≡ some s → ownerOf p log ≡ some connection → Did log call (event (renewed p) ∷ [])
+  renews : (p connection : ℕ) (s : Transmission) → LineOf connection call → Port p → inSensor p log ≡ false → onAir p log ≡ some s
+      → ownerOf p log ≡ some connection → Did log call (event (renewed p) ∷ [])
   -- a line halted connector p, not in SENSOR
-  halts : (p : ℕ) → Port p → inSensor p log ≡ false → Did log call (event (halted p) ∷ [])
+  halts : (p connection : ℕ) → LineOf connection call → Port p → inSensor p log ≡ false → Did log call (event (halted p) ∷ [])
   -- a connection was closed; a time passed
   leaves : (connection : ℕ) → call ≡ closing connection → connection ≤ 7 → Did log call (event (left connection) ∷ [])
   passes : (n : ℕ) → call ≡ waiting n → n ≤ 1000000000 → Did log call (passed n ∷ [])

@@ -14,10 +14,9 @@ use Rattle.laws.proofs.Choice.{clash, cond-case, by-test, not-both, and-left, a
 use Rattle.laws.proofs.Checks.{first-all}
 use Rattle.words.specs.Decimal.{decimal}
 use Rattle.meaning.specs.Line as text
-use Rattle.meaning.specs.Line.{is}
 use Rattle.meaning.specs.Time.{Transmission, complete, finish}
 use Rattle.meaning.specs.Log.{Deed, passed, setting, switched, event, started, renewed, halted, left, now, lastOf, ownerOf, onAir}
-use Rattle.meaning.specs.Table.{Completion, refused, taken, replied, Judged, refusal, error, does, Row, row, no, Call, line, overlong, reading, closing, waiting, answerOf, deedsOf, judge, logged, logOf, rowOf, dueOf, due, inserted, ordered, completions, field, getdevices, getversion, set-IR, get-IR, setstate, getstate, sendir, stopir, request}
+use Rattle.meaning.specs.Table.{Completion, refused, taken, replied, Judged, refusal, error, does, Row, no, Call, line, overlong, reading, closing, waiting, answerOf, deedsOf, judge, logged, logOf, rowOf, dueOf, due, inserted, ordered, completions, getdevices, getversion, set-IR, get-IR, setstate, getstate, sendir, stopir, request}
 use Rattle.theorems.specs.Deeds.{Port, Did, nothing, changes, reads, switches, starts, renews, halts, leaves, passes}
 use Rattle.theorems.specs.Notices.{Notice, noticeOf, isFor, noticesIn, noticesOf, notices, loggedAll, touches, startsOn, LeftAlone, Unstarted}
 use Rattle.theorems.proofs.Rows.{by-rows}
@@ -68,7 +67,8 @@ module _ (p t : ℕ) where
       (λ _. ap (λ (k : List Notice). cond (isFor p y) (record { moment = t + y .moment; words = y .notice } ∷ k) k) (other-inserted x l e))
       (λ _. rw e)
 
-  only-inserted : (x : Completion) (l : List Completion) → isFor p x ≡ true → noticesIn p t l ≡ [] → noticesIn p t (inserted x l) ≡ noticesIn p t (x ∷ [])
+  only-inserted : (x : Completion) (l : List Completion) → isFor p x ≡ true → noticesIn p t l ≡ []
+      → noticesIn p t (inserted x l) ≡ noticesIn p t (x ∷ [])
   only-inserted x [] e n = refl
   only-inserted x (y ∷ l) e n =
       by-test (isFor p y)
@@ -99,10 +99,11 @@ is-for : (p q : ℕ) → Port p → Port q → (moment : ℕ) (owner : Option �
     → isFor p (record { moment = moment; owner = owner; notice = text.line "completeir," 1 q (decimal id) }) ≡ eqb q p
 unfolding isFor decimal
 is-for p q a b moment owner id =
-    ports p a (λ p. isFor p (record { moment = moment; owner = owner; notice = text.line "completeir," 1 q (decimal id) }) ≡ eqb q p)
-    (ports q b (λ q. isFor 1 (record { moment = moment; owner = owner; notice = text.line "completeir," 1 q (decimal id) }) ≡ eqb q 1) refl refl refl)
-    (ports q b (λ q. isFor 2 (record { moment = moment; owner = owner; notice = text.line "completeir," 1 q (decimal id) }) ≡ eqb q 2) refl refl refl)
-    (ports q b (λ q. isFor 3 (record { moment = moment; owner = owner; notice = text.line "completeir," 1 q (decimal id) }) ≡ eqb q 3) refl refl refl)
+    ports p a (λ p. Alone p q)
+    (ports q b (Alone 1) refl refl refl) (ports q b (Alone 2) refl refl refl) (ports q b (Alone 3) refl refl refl)
+  where
+    Alone : ℕ → ℕ → Type 0
+    Alone p q = isFor p (record { moment = moment; owner = owner; notice = text.line "completeir," 1 q (decimal id) }) ≡ eqb q p
 
 module _ (p : ℕ) (port : Port p) (n : ℕ) (log : List Deed) where
   abbrev heard : ℕ → List Notice
@@ -176,7 +177,7 @@ did-now log call w ds (passes n e _) = absurd (w n e)
 way : (log : List Deed) (call : Call) → Way log (judge log call)
 way log (line connection room s) =
     stays
-    (first-all plain (rowOf log (line connection room s) .checks) (rowOf log (line connection room s) .otherwise) (request-plain log connection s))
+    (first-all plain (rowOf log (line connection room s) .checks) (request log connection s .otherwise) (request-plain log connection s))
     (did-now log (line connection room s) (λ n e. clash (cc)) _ (did log (line connection room s)))
 way log (overlong connection room) =
     stays (first-all plain (rowOf log (overlong connection room) .checks) (no 15) refl)
@@ -228,7 +229,8 @@ module _ (p : ℕ) (port : Port p) (s : Transmission) where
       (λ t. rw (t, complete-is {t = now log + n} (begun-later b (omega arith)))
       (by-test (leb (finish s) (now log + n))
       (λ u. rw (u, is-for p p port port (finish s - now log) (ownerOf p log) (s .fields .id), eq-eqb p p refl)
-      (ap (λ (m : ℕ). record { moment = m; words = text.line "completeir," 1 p (decimal (s .fields .id)) } ∷ []) (omega (arith, leb-false (finish s) (now log) t))))
+      (ap (λ (m : ℕ). record { moment = m; words = text.line "completeir," 1 p (decimal (s .fields .id)) } ∷ [])
+      (omega (arith, leb-false (finish s) (now log) t))))
       (λ u. rw u))))
 
   step : (log : List Deed) (l : List Call) (j : Judged) → Way log j → lastOf p log ≡ some s → Begun s (now log)
@@ -245,7 +247,9 @@ module _ (p : ℕ) (port : Port p) (s : Transmission) where
       ∙ by-test (leb (finish s) (now log))
       (λ t. rw (t, le-leb (finish s) (now log + n) (omega (arith, leb-true (finish s) (now log) t))))
       (λ t. by-test (leb (finish s) (now log + n))
-      (λ u. rw (t, u, le-leb (finish s) (now (loggedAll (passed n ∷ log) l)) (omega (arith, leb-true (finish s) (now log + n) u, now-grows-all (passed n ∷ log) l))))
+      (λ u.
+      let before = leb-true (finish s) (now log + n) u in
+      rw (t, u, le-leb (finish s) (now (loggedAll (passed n ∷ log) l)) (omega (arith, now-grows-all (passed n ∷ log) l))))
       (λ u. rw (t, u)))
 
   tells : (log : List Deed) (l : List Call) → lastOf p log ≡ some s → Begun s (now log) → LeftAlone p log l → Tells log l (notices p log l)
@@ -254,7 +258,8 @@ module _ (p : ℕ) (port : Port p) (s : Transmission) where
 
 -- After every history: a transmission on air that none of the later calls touches is followed by its one notice, at its moment, if the clock
 -- gets there, and by none otherwise; over any number of waits
-pub completes-exactly-once : (h : List Call) (p : ℕ) (s : Transmission) (l : List Call) → Port p → onAir p (logOf h) ≡ some s → LeftAlone p (logOf h) l
+pub completes-exactly-once : (h : List Call) (p : ℕ) (s : Transmission) (l : List Call) → Port p → onAir p (logOf h) ≡ some s
+    → LeftAlone p (logOf h) l
     → notices p (logOf h) l ≡ cond (leb (finish s) (now (loggedAll (logOf h) l))) (noticeOf p s ∷ []) []
 completes-exactly-once h p s l port e a =
     let air = on-air-is p (logOf h) s e in
@@ -295,7 +300,8 @@ module _ (p : ℕ) (port : Port p) where
 pub wait-of-0-completes-nothing : (log : List Deed) → completions 0 log ≡ []
 wait-of-0-completes-nothing log = λ i. ordered (nothing-due 1 i ++ nothing-due 2 i ++ nothing-due 3 i)
   where
-    go : (p : ℕ) (o : Option Transmission) → ((s : Transmission) → o ≡ some s → complete s (now log) ≡ false) → dueOf 0 (now log) p (ownerOf p log) o ≡ []
+    go : (p : ℕ) (o : Option Transmission) → ((s : Transmission) → o ≡ some s → complete s (now log) ≡ false)
+        → dueOf 0 (now log) p (ownerOf p log) o ≡ []
     go p none r = refl
     go p (some s) r = rw (add-zero (now log), r s refl)
 

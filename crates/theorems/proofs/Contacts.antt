@@ -215,7 +215,8 @@ module _ (log : List Deed) (p v : ℕ) (told : Option ℕ) (port : Port p) (smal
     unfolding setstate decimal
     setstate-relay =
         through FromRelay (setstate log connection s .checks) (setstate log connection s .otherwise)
-        (past (not-relay _ refl) (λ _. past (not-relay _ refl) (λ _. past (not-relay _ refl) (λ port. past (not-relay _ refl) (λ _. past (not-relay _ refl) (λ _.
+        (past (not-relay _ refl) (λ _. past (not-relay _ refl) (λ _. past (not-relay _ refl) (λ port.
+        past (not-relay _ refl) (λ _. past (not-relay _ refl) (λ _.
         record {
           tells =
               λ e. let t = relay-said q (text.number (field log connection s 2)) (asked-port port) e in rw (eq-eqb q p (t .0)) (t .1);

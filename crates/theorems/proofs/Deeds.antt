@@ -16,7 +16,7 @@ use Rattle.laws.proofs.Checks.{Through, through, past, none-of, some-of}
 use Rattle.laws.proofs.Lists.{same-is, same-self}
 use Rattle.meaning.specs.Line.{is, isNumber, number, within, codeIn}
 use Rattle.meaning.specs.Log.{Deed, isOwner, ownerOf, onAir, modeOf}
-use Rattle.meaning.specs.Table.{Judged, Row, Call, line, overlong, reading, closing, waiting, deedsOf, judge, getdevices, getversion, set-IR, get-IR, setstate, getstate, sendir, stopir, request, field, row, no, rowOf}
+use Rattle.meaning.specs.Table.{Judged, Row, Call, line, overlong, reading, closing, waiting, deedsOf, judge, getdevices, getversion, set-IR, get-IR, setstate, getstate, sendir, stopir, request, field, rowOf}
 use Rattle.meaning.specs.Table as table
 use Rattle.theorems.proofs.Codes.{code-pairs}
 use Rattle.theorems.proofs.Rows.{by-rows, by-line}
@@ -96,7 +96,8 @@ module _ (log : List Deed) (connection room : ℕ) (text : List ℕ) (c : connec
   set-IR-did : Meets log asks (set-IR log connection text)
   unfolding set-IR
   set-IR-did =
-      past nothing (λ _. past nothing (λ _. past nothing (λ port. past nothing (λ mode. past nothing (λ third. past nothing (λ _. past nothing (λ air.
+      past nothing (λ _. past nothing (λ _. past nothing (λ port. past nothing (λ mode.
+      past nothing (λ third. past nothing (λ _. past nothing (λ air.
       let word = field log connection text 2 in
       cond-case (Did log asks) (same (modeOf p log) word) [] _
       (λ _. nothing)
@@ -112,12 +113,14 @@ module _ (log : List Deed) (connection room : ℕ) (text : List ℕ) (c : connec
   getstate-did : Meets log asks (getstate log connection text)
   unfolding getstate
   getstate-did =
-      past nothing (λ _. past nothing (λ _. past nothing (λ _. past nothing (λ _. past nothing (λ _. past nothing (λ _. past nothing (λ _. nothing)))))))
+      past nothing (λ _. past nothing (λ _. past nothing (λ _. past nothing (λ _.
+      past nothing (λ _. past nothing (λ _. past nothing (λ _. nothing)))))))
 
   stopir-did : Meets log asks (stopir log connection text)
   unfolding stopir
   stopir-did =
-      past nothing (λ _. past nothing (λ _. past nothing (λ port. past nothing (λ _. past nothing (λ mode. halts p connection asked (port-is port) mode)))))
+      past nothing (λ _. past nothing (λ _. past nothing (λ port. past nothing (λ _. past nothing (λ mode.
+      halts p connection asked (port-is port) mode)))))
 
   sendir-did : Meets log asks (sendir log connection text)
   unfolding sendir

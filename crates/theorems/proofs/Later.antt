@@ -17,7 +17,7 @@ use Rattle.laws.proofs.Checks.{first-all}
 use Rattle.meaning.specs.Time.{Transmission, carrier}
 use Rattle.meaning.specs.Time as time
 use Rattle.meaning.specs.Log.{Deed, passed, setting, switched, event, changed, felt, started, renewed, halted, left, now, modeOf, contactOf, relayOf, lastOf, ownerOf, onAir, until}
-use Rattle.meaning.specs.Table.{refused, taken, replied, Judged, refusal, error, does, Row, row, no, Call, line, overlong, reading, closing, waiting, answerOf, deedsOf, rowOf, judge, logged, dueOf, due, ordered, completions, carriers, Said, said, getdevices, getversion, set-IR, get-IR, setstate, getstate, sendir, stopir, request}
+use Rattle.meaning.specs.Table.{refused, taken, replied, Judged, refusal, error, does, Row, no, Call, line, overlong, reading, closing, waiting, answerOf, deedsOf, rowOf, judge, logged, dueOf, due, ordered, completions, carriers, Said, said, getdevices, getversion, set-IR, get-IR, setstate, getstate, sendir, stopir, request}
 use Rattle.theorems.specs.Later.{Alike}
 use Rattle.theorems.proofs.Rows.{by-rows}
 

@@ -7,7 +7,6 @@ use mathlib.Core.Option.{some}
 use native.Mathlib.Nat.{suc-mul, sub-self, zero-mul, mul-le-mul, mul-le-mul-left}
 use native.Mathlib.Omega.{arith}
 use borrow.Author.Tests.{eq-eqb, le-leb, lt-leb}
-use lib.Dec.{leb}
 use lib.ListN.{length, drop}
 use Rattle.laws.specs.Checks.{between}
 use Rattle.laws.specs.Lists.{all, times}
@@ -17,7 +16,7 @@ use Rattle.words.specs.declared.Fields.{Fields}
 use Rattle.meaning.specs.Time.{countsOf, lasts, inTicks, furtherCopy, waveform, total, done, complete, finish}
 use Rattle.meaning.specs.Time as time
 use Rattle.meaning.specs.Log.{Deed, passed, event, started, now, onAir}
-use Rattle.meaning.specs.Table.{Call, deedsOf, judge, logged, logOf}
+use Rattle.meaning.specs.Table.{Call, deedsOf, judge, logOf}
 use Rattle.theorems.specs.Deeds.{Port, Limits, countFits, pairFits, Did, nothing, changes, reads, switches, starts, renews, halts, leaves, passes}
 use Rattle.theorems.specs.Notices.{noticeOf, notices, loggedAll, LeftAlone, longestWaits}
 use Rattle.theorems.proofs.Deeds.{between-is, did}

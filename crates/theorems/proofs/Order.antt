@@ -61,9 +61,7 @@ at-inserted t x (y ∷ l) =
     (λ e. ap (λ (k : List Completion). cond (eqb (y .moment) t) (y ∷ k) k) (at-inserted t x l) ∙ apart (ltb-true (y .moment) (x .moment) e))
     (λ e. refl)
   where
-    apart : y .moment < x .moment
-        → cond (eqb (y .moment) t) (y ∷ cond (eqb (x .moment) t) (x ∷ atMoment t l) (atMoment t l)) (cond (eqb (x .moment) t) (x ∷ atMoment t l) (atMoment t l))
-        ≡ cond (eqb (x .moment) t) (x ∷ cond (eqb (y .moment) t) (y ∷ atMoment t l) (atMoment t l)) (cond (eqb (y .moment) t) (y ∷ atMoment t l) (atMoment t l))
+    apart : y .moment < x .moment → atMoment t (y ∷ x ∷ l) ≡ atMoment t (x ∷ y ∷ l)
     apart h =
         by-test (eqb (y .moment) t)
         (λ e. let f = eqb-true (y .moment) t e in rw (e, ne-eqb (x .moment) t (λ g. omega arith)))

@@ -1,7 +1,8 @@
--- "A later connection of that number owns nothing of them": over any later deeds and calls, a closed connection owns only what it has started anew.
+-- "A later connection of that number owns nothing of them": after any later deeds and calls a closed connection owns only what it has
+-- started anew.
 use Prim.Native.Nat.{ℕ, _≤_}
 use mathlib.Core.Path.{_≡_, refl, sym, ap, _∙_}
-use mathlib.Core.Bool.{true, cond}
+use mathlib.Core.Bool.{cond}
 use mathlib.Core.List.{List, [], _∷_, _++_, append-nil}
 use mathlib.Core.Logic.{_⊎_, inl, inr, ⊎-elim}
 use mathlib.Core.Option.{Option, none, some}

@@ -29,7 +29,8 @@ module _ (log : List Deed) (connection : ℕ) (s : List ℕ) where
       ∷ (is "sendir" name ⇒ sendir log connection s)
       ∷ (is "stopir" name ⇒ stopir log connection s)
       ∷ []) (row [] (no 1))
-      (past devices (λ _. past version (λ _. past sets (λ _. past gets (λ _. past states (λ _. past state (λ _. past sends (λ _. past stops (λ _. unknown)))))))))
+      (past devices (λ _. past version (λ _. past sets (λ _. past gets (λ _.
+      past states (λ _. past state (λ _. past sends (λ _. past stops (λ _. unknown)))))))))
 
   pub by-line : (P : Judged → Type 0) (room : ℕ) → P (refusal 102) → P (refusal 101) → P (no 15) → P (no 1)
       → (connection ≤ 7 → P (first (request log connection s .checks) (request log connection s .otherwise)))

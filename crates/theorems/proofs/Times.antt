@@ -1,7 +1,7 @@
 -- The moment of completion is the first at which the ticks done reach the total; every transmission that a history has was started in time.
 use Prim.Native.Nat.{ℕ, _+_, _-_, _*_, _≤_}
-use mathlib.Core.Path.{_≡_, refl, sym, ap, _∙_}
-use mathlib.Core.Bool.{true, false, cond}
+use mathlib.Core.Path.{_≡_, refl, sym, _∙_}
+use mathlib.Core.Bool.{false}
 use mathlib.Core.List.{List, [], _∷_, _++_}
 use mathlib.Core.Option.{Option, none, some, Option·map}
 use native.Mathlib.Nat.{add-mul, div-lt-iff-lt-mul, lt-div-mul-add, mul-le-mul-right}
@@ -55,7 +55,9 @@ complete-is {s} {t} b =
 
     reached : s .start + firstMicro (total s) (s .fields .freq) ≤ t → total s ≤ (t - s .start) * s .fields .freq
     reached h =
-        omega (arith, micro-reached (total s) (s .fields .freq) high, mul-le-mul-right {m = firstMicro (total s) (s .fields .freq)} {n = t - s .start} (s .fields .freq) (omega arith))
+        let m = firstMicro (total s) (s .fields .freq) in
+        let before = micro-reached (total s) (s .fields .freq) high in
+        omega (arith, mul-le-mul-right {m = m} {n = t - s .start} (s .fields .freq) (omega arith))
 
 -- ---- over a history
 abbrev pub BegunBy : ℕ → Option Transmission → Type 0

@@ -5,7 +5,7 @@ use mathlib.Core.Bool.{Bool, true, false, cond, _&&_}
 use mathlib.Core.List.{List, [], _∷_, _++_}
 use mathlib.Core.Logic.{_↔_}
 use borrow.Author.Tests.{eqb-true, eq-eqb, le-ltb, le-leb}
-use lib.Dec.{ltb, leb, eqb}
+use lib.Dec.{eqb}
 use Rattle.laws.specs.Bytes.{bytes}
 use Rattle.laws.specs.Lists.{same}
 use Rattle.laws.proofs.Choice.{clash, by-test, not-both}
@@ -20,7 +20,7 @@ use Rattle.text.proofs.Reading.{digit-range}
 use Rattle.meaning.specs.Time.{Transmission, countsOf}
 use Rattle.meaning.specs.Log.{Deed, modeOf}
 use Rattle.meaning.specs.Table.{Call, logOf, isSame}
-use Rattle.theorems.specs.Deeds.{ModeWord, ir, sensor, inSensor, Did, nothing, changes, reads, switches, starts, renews, halts, leaves, passes}
+use Rattle.theorems.specs.Deeds.{ModeWord, ir, inSensor, Did, nothing, changes, reads, switches, starts, renews, halts, leaves, passes}
 use Rattle.theorems.proofs.Deeds.{did}
 
 -- two words are the same exactly when they are equal
@@ -32,7 +32,8 @@ pub in-sensor-means : (p : ℕ) (log : List Deed) → (inSensor p log ≡ true) 
 in-sensor-means p log = (λ e. sym (same-is _ (modeOf p log) e), λ e. rw e)
 
 -- after every history each connector has one of the three modes
-did-mode : (p : ℕ) (log : List Deed) (call : Call) (ds : List Deed) → Did log call ds → ModeWord p (modeOf p log) → ModeWord p (modeOf p (ds ++ log))
+did-mode : (p : ℕ) (log : List Deed) (call : Call) (ds : List Deed) → Did log call ds → ModeWord p (modeOf p log)
+    → ModeWord p (modeOf p (ds ++ log))
 did-mode p log call ds nothing m = m
 did-mode p log call ds (changes r c word _ _ is _ _) m = by-test (eqb r p) (λ t. rw (t, ← eqb-true r p t) is) (λ t. rw t m)
 did-mode p log call ds (reads r v _ _ _ _) m = m

@@ -35,8 +35,8 @@ countFits freq n = between 4 50000 n && leb freq (12500 * n)
 abbrev pub pairFits : ℕ → Pair → Bool
 pairFits freq x = countFits freq (x .on) && countFits freq (x .off)
 
--- "id 0 to 65535; freq 15000 to 500000 Hz; repeat 1 to 999999, and above 20 is taken as 20; offset odd, 1 to 383"; "1 to 260 pairs"; "The offset is
--- at most twice the number of pairs, less one"
+-- "id 0 to 65535; freq 15000 to 500000 Hz; repeat 1 to 999999, and above 20 is taken as 20; offset odd, 1 to 383";
+-- "1 to 260 pairs"; "The offset is at most twice the number of pairs, less one"
 pub record Limits (f : Fields) (ps : List Pair) : Type 0 where
   pub id-most : f .id ≤ 65535
   pub freq-least : 15000 ≤ f .freq

@@ -22,7 +22,7 @@ pub record Notice : Type 0 where
 abbrev pub noticeOf : ℕ → Transmission → Notice
 noticeOf p s = record { moment = finish s; words = text.line "completeir," 1 p (decimal (s .fields .id)) }
 
--- whether it begins with `completeir,1:p`, which has 14 bytes for a connector p
+-- whether a completion's notice begins with `completeir,1:p`, 14 bytes for each of the three connectors
 unfoldable pub isFor : ℕ → Completion → Bool
 isFor p x = same (addressed "completeir," 1 p) (take 14 (x .notice))
 

@@ -1,14 +1,14 @@
 -- Laws of an order of checks, and of what there is or is not.
 use Prim.Native.Nat.{ℕ}
 use mathlib.Core.Path.{_≡_, refl}
-use mathlib.Core.Bool.{Bool, true, false}
+use mathlib.Core.Bool.{Bool, true, false, _&&_}
 use mathlib.Core.List.{List, [], _∷_}
 use mathlib.Core.Option.{Option, none, some}
 use lib.Dec.{eqb}
 use borrow.Author.Tests.{eqb-true}
 use Rattle.laws.specs.Checks.{Check, first, FirstThat, holding, failing, otherwise, isSome, oneOf}
 use Rattle.laws.specs.Lists.{all}
-use Rattle.laws.proofs.Choice.{by-test, cond-case, not-both, and-left, and-right}
+use Rattle.laws.proofs.Choice.{by-test, cond-case, not-both, and-left, and-right, and-true}
 
 -- P of each answer where its test holds and none before it does, and of the other where none holds
 abbrev pub Through : {A : Type 0} → (A → Type 0) → List (Check A) → A → Type 0
@@ -19,6 +19,22 @@ pub through : {A : Type 0} (P : A → Type 0) (ks : List (Check A)) (other : A) 
 through P [] other h = h
 through P (k ∷ ks) other h = cond-case P (k .test) (k .gives) (first ks other) (h .0) (λ e. through P ks other (h .1 e))
 
+-- past a check of whose answer it holds anyway
+pub past : {A B C D : Type 0} → B → (C → D) → (A → B) × (C → D)
+past b rest = (λ _. b, rest)
+
+-- a test of every answer
+module _ {A : Type 0} (test : A → Bool) where
+  pub first-all : (ks : List (Check A)) (other : A) → all (λ k. test (k .gives)) ks && test other ≡ true → test (first ks other) ≡ true
+  first-all [] other e = e
+  first-all (k ∷ ks) other e =
+      let a = and-left (test (k .gives) && all (λ j. test (j .gives)) ks) (test other) e in
+      let b = and-right (test (k .gives) && all (λ j. test (j .gives)) ks) (test other) e in
+      cond-case (λ (x : A). test x ≡ true) (k .test) (k .gives) (first ks other)
+      (λ _. and-left (test (k .gives)) _ a)
+      (λ _. first-all ks other (and-true (all (λ j. test (j .gives)) ks) (test other) (and-right (test (k .gives)) _ a) b))
+
+-- ---- what there is or is not
 pub none-of : {A : Type 0} (o : Option A) → isSome o ≡ false → o ≡ none
 none-of none e = refl
 none-of (some x) e = not-both refl e

@@ -109,9 +109,12 @@ pub decimal-some : (n : ℕ) → 1 ≤ length (decimal n)
 unfolding decimal
 decimal-some n = by-test (ltb n 10) (λ e. rw e (omega arith)) (λ e. rw (e, length-append) (omega arith))
 
-pub decimal-worth : (n : ℕ) → n < 1000000 → worth 0 (decimal n) ≡ n
+pub decimal-value : (n : ℕ) → n < 10 ^ 20 → worth 0 (decimal n) ≡ n
 unfolding decimal
-decimal-worth n h = fine 20 n .value (omega arith)
+decimal-value n h = fine 20 n .value h
+
+pub decimal-worth : (n : ℕ) → n < 1000000 → worth 0 (decimal n) ≡ n
+decimal-worth n h = decimal-value n (omega arith)
 
 -- ---- no zero in front
 some-digit : (k n : ℕ) → 1 ≤ length (decimalIn (suc k) n)

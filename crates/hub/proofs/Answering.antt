@@ -7,6 +7,6 @@ use Rattle.hub.specs.Send.{Step, Decides}
 use Rattle.hub.specs.Line.{Writes, Answers}
 
 -- a step that was decided, and then written
-pub answers : {step : Step} {d : Decided} {r : Answered} {store store₁ before after : List ℕ}
-    → Decides step store d store₁ → Writes d before r after → Answers step store before r store₁ after
+pub answers : {step : Step} {d : Decided} {r : Answered} {store before after : List ℕ}
+    → Decides step d store → Writes d before r after → Answers step before r store after
 answers decides writes = record { writes = rw (decides .result) at writes; kept = decides .kept }

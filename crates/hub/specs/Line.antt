@@ -107,7 +107,6 @@ pub record Writes (d : Decided) (before : List ℕ) (r : Answered) (after : List
   pub result : r ≡ answeredOf d
   pub laid : after ≡ over before 0 (bytesOf (d .answer))
 
--- the store, of the length of its type, and the reply buffer, as they were and as they are
-pub record Answers (step : Step) (store before : List ℕ) (r : Answered) (store₁ after : List ℕ) : Type 0 where
+pub record Answers (step : Step) (before : List ℕ) (r : Answered) (store after : List ℕ) : Type 0 where
   pub writes : Writes (step .decided) before r after
-  pub kept : length store ≡ 1560 → store₁ ≡ step .store
+  pub kept : store ≡ step .store

@@ -4,7 +4,7 @@ use mathlib.Core.Path.{_≡_}
 use mathlib.Core.Bool.{cond}
 use mathlib.Core.List.{List}
 use lib.ListN.{length}
-use Rattle.laws.specs.Put.{over}
+use Rattle.laws.specs.Put.{storedIn}
 use Rattle.words.specs.declared.Pair.{Pair}
 use Rattle.code.specs.Limits.{offsetWithin}
 use Rattle.code.specs.Read.{Reading, pairs, fault, readCode}
@@ -29,10 +29,10 @@ pub record Step : Type 0 where
   pub decided : Decided
   pub store : List ℕ
 
--- that it was decided so; the store, of the length of its type, as it was and as it is
-pub record Decides (step : Step) (store : List ℕ) (r : Decided) (store₁ : List ℕ) : Type 0 where
+-- that it was decided so
+pub record Decides (step : Step) (r : Decided) (store : List ℕ) : Type 0 where
   pub result : r ≡ step .decided
-  pub kept : length store ≡ 1560 → store₁ ≡ step .store
+  pub kept : store ≡ step .store
 
 abbrev pub decidedAs : Answer → Hub → Decided
 decidedAs a h = record { answer = a; hub = h }
@@ -48,7 +48,7 @@ abbrev pub byVerdict : Hub → List ℕ → ℕ → ℕ → Fields → List Pair
 byVerdict h store connection port f ps verdict.Start =
     record {
       decided = decidedAs answer.Taken (withConnector h (port - 1) (started (connectorAt h (port - 1)) connection (runOf f ps)));
-      store = over store ((port - 1) * 520) (countsOf ps);
+      store = storedIn store ((port - 1) * 520) (countsOf ps);
     }
 byVerdict h store connection port f ps verdict.Renew =
     unchanged (decidedAs answer.Taken (withConnector h (port - 1) (renewed (connectorAt h (port - 1))))) store

@@ -118,7 +118,7 @@ fn asked(
     request: Request,
 ) -> Decided
     requires { ⌜ SoundHub hub × Within request ⌝ }
-    ensures { λ r. ⌜ Decides (askedStep hub (now (store .entry)) connection (now (text .entry)) request) (now (store .entry)) r (now (store .exit)) ⌝ }
+    ensures { λ r. ⌜ Decides (askedStep hub (now (store .entry)) connection (now (text .entry)) request) r (now (store .exit)) ⌝ }
 {
     match request {
         Request::Fault(number, m, port) => error(hub, number, m, port),
@@ -173,7 +173,7 @@ pub fn line(
 ) -> Answered
     requires { ⌜ SoundHub hub ⌝ }
     ensures { λ r. ⌜ Answers (lineStep hub (now (store .entry)) connection (now (text .entry)) (length (now (reply .entry))))
-        (now (store .entry)) (now (reply .entry)) r (now (store .exit)) (now (reply .exit)) ⌝ }
+        (now (reply .entry)) r (now (store .exit)) (now (reply .exit)) ⌝ }
 {
     if Hub::MOST_CONNECTION < connection {
         return refused(hub, 102);

@@ -28,7 +28,7 @@ fn send(
     count: usize,
 ) -> Decided
     requires { ⌜ SoundHub hub × PortWithin port × (count ≤ 260) × (f .offset < 2 * count) ⌝ }
-    ensures { λ r. ⌜ Decides (sendStep hub (now (store .entry)) connection port f (take count pairs)) (now (store .entry)) r (now (store .exit)) ⌝ }
+    ensures { λ r. ⌜ Decides (sendStep hub (now (store .entry)) connection port f (take count pairs)) r (now (store .exit)) ⌝ }
 {
     let slot = crate::slots::slot_of(port);
     let c = hub.connectors[slot];
@@ -67,7 +67,7 @@ fn coded(
     at: usize,
 ) -> Decided
     requires { ⌜ SoundHub hub × PortWithin port × FieldsWithin f ⌝ }
-    ensures { λ r. ⌜ Decides (codeStep hub (now (store .entry)) connection port f (now (text .entry)) at) (now (store .entry)) r (now (store .exit)) ⌝ }
+    ensures { λ r. ⌜ Decides (codeStep hub (now (store .entry)) connection port f (now (text .entry)) at) r (now (store .exit)) ⌝ }
 {
     let code = code::read::read_code(f.freq, text, at);
     let read = code.read;
@@ -93,7 +93,7 @@ pub fn sent(
     sent: Sent,
 ) -> Decided
     requires { ⌜ SoundHub hub × PortWithin port × SentWithin sent ⌝ }
-    ensures { λ r. ⌜ Decides (sentStep hub (now (store .entry)) connection port sent (now (text .entry))) (now (store .entry)) r (now (store .exit)) ⌝ }
+    ensures { λ r. ⌜ Decides (sentStep hub (now (store .entry)) connection port sent (now (text .entry))) r (now (store .exit)) ⌝ }
 {
     let slot = crate::slots::slot_of(port);
     let c = hub.connectors[slot];

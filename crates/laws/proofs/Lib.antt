@@ -4,3 +4,4 @@ pub mod Lists
 pub mod Joining
 pub mod Cutting
 pub mod Put
+pub mod Storing

@@ -12,9 +12,10 @@ use Rattle.laws.proofs.Choice.{by-test}
 use Rattle.laws.proofs.Put.{over-front}
 use Rattle.lines.specs.declared.Assembler.{Assembler}
 use Rattle.lines.specs.Cut.{divided, lineOf, linesOf}
-use Rattle.lines.specs.Take.{assembler, freshAssembler, counted, foundOf, untilCr, storedIn, Step, takeStep}
+use Rattle.laws.specs.Put.{storedIn}
+use Rattle.lines.specs.Take.{assembler, freshAssembler, counted, foundOf, untilCr, Step, takeStep}
 use Rattle.lines.specs.Feed.{Fed, fed, lineIn, called, onward, fedPiece, feed}
-use Rattle.lines.proofs.Storing.{stored-whole, stores-stored}
+use Rattle.laws.proofs.Storing.{stored-whole, stores-stored}
 use Rattle.lines.proofs.Taking.{counted-few, counted-many, counted-on}
 use Rattle.lines.proofs.Keeps.{take-case, used-some}
 use Rattle.lines.proofs.Cutting.{divided-append, divided-ended, divided-unfinished}

@@ -16,7 +16,7 @@ use Rattle.lines.specs.Take.{assembler, freshAssembler, counted, foundOf
 use Rattle.lines.specs.declared.Assembler.{Assembler}
 use Rattle.lines.specs.declared.Found.{Found}
 use Rattle.lines.specs.declared.Found.the-variants.{Nothing, Line, Overlong, Refused}
-use Rattle.lines.proofs.Storing.{sets-out, stores-stored}
+use Rattle.laws.proofs.Storing.{sets-out, stores-stored}
 
 -- ---- how bytes are counted
 pub counted-few : (n : ℕ) → n ≤ 4096 → counted n ≡ n

@@ -2,7 +2,7 @@
 -- connection's stream into lines", "107 an assembler buffer that is not 4,096 bytes", "Bytes of a lent buffer after what is written keep
 -- their contents." The bytes of an unfinished line are only in the buffer, so while there is one each call wants the buffer as the call
 -- before left it.
-use Prim.Native.Nat.{ℕ, suc, _+_, _-_, _≤_}
+use Prim.Native.Nat.{ℕ, suc, _+_, _≤_}
 use mathlib.Core.Path.{_≡_}
 use mathlib.Core.Bool.{Bool, true, false, cond, not}
 use mathlib.Core.List.{List, [], _∷_}
@@ -10,7 +10,7 @@ use lib.Dec.{eqb, leb, ltb}
 use lib.ListN.{length, take}
 use Rattle.laws.specs.Checks.{_⇒_, first}
 use Rattle.laws.specs.Lists.{leading}
-use Rattle.laws.specs.Put.{over}
+use Rattle.laws.specs.Put.{storedIn}
 use Rattle.lines.specs.declared.Assembler.{Assembler}
 use Rattle.lines.specs.declared.Found.{Found}
 use Rattle.lines.specs.declared.Found.the-variants.{Nothing, Line, Overlong, Refused}
@@ -47,10 +47,6 @@ pub record Step : Type 0 where
 
 abbrev pub stepOf : Assembler → ℕ → Found → List ℕ → Step
 stepOf a used found buffer = record { taken = record { assembler = a; used = used; found = found }; buffer = buffer }
-
--- the buffer once bytes stand behind those of the line that it holds, as far as it has room
-abbrev pub storedIn : List ℕ → ℕ → List ℕ → List ℕ
-storedIn buffer size bytes = over buffer size (take (length buffer - size) bytes)
 
 -- bytes that go behind those that there are, with a CR behind them or without one yet
 abbrev pub endedStep : Assembler → List ℕ → List ℕ → Step

@@ -1,20 +1,19 @@
 // The pairs of what the connectors transmit, all in one lent array: 520 numbers for each connector, on and off counts in turn. What
-// stands in a slot behind the pairs that are being sent, or in the slot of an idle connector, means nothing. The length of a lent array
-// is its type's, and a promise that needs it says so.
+// stands in a slot behind the pairs that are being sent, or in the slot of an idle connector, means nothing.
 use code::Code;
 use words::Pair;
 ghost use mathlib.Core.Path.{_≡_};
 ghost use mathlib.Core.Bool.{true};
 ghost use Prim.Native.Nat.{_*_, _≤_, _<_};
-ghost use lib.ListN.{length, take};
-ghost use Rattle.laws.specs.Put.{over};
+ghost use lib.ListN.{take};
+ghost use Rattle.laws.specs.Put.{storedIn};
 ghost use Rattle.meaning.specs.Time.{countsOf, onAt};
 ghost use Rattle.store.specs.Store.{slotCounts, alike};
 
 // Keeps the first count pairs in a slot.
 pub fn keep(store: &mut [u16; 1560], slot: usize, pairs: [Pair; Code::MOST_PAIRS], count: usize)
     requires { ⌜ (slot < 3) × (count ≤ 260) ⌝ }
-    ensures { λ _. ⌜ (length (now (store .entry)) ≡ 1560 → now (store .exit) ≡ over (now (store .entry)) (slot * 520) (countsOf (take count pairs))) ⌝ }
+    ensures { λ _. ⌜ now (store .exit) ≡ storedIn (now (store .entry)) (slot * 520) (countsOf (take count pairs)) ⌝ }
 {
     let base = slot * 520;
     let mut i: usize = 0;

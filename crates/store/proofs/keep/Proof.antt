@@ -3,10 +3,9 @@ use mathlib.Core.Path.{_≡_, refl, sym, _∙_}
 use native.Mathlib.Nat.{add-zero}
 use native.Mathlib.Omega.{arith}
 use lib.ListN.{length, take}
-use lib.Seq.{sets, slice-empty, length-take-le}
-use Rattle.laws.proofs.Put.{stores-over}
+use lib.Seq.{sets, slice-empty}
+use Rattle.laws.proofs.Storing.{stores-stored}
 use Rattle.meaning.specs.Time.{countsOf}
-use Rattle.store.proofs.Kept.{counts-length}
 use Rattle.store.proofs.Turns.{filled, fill}
 use Rattle.store.proofs.keep.Statement.{statement}
 use Rattle.store.proofs.keep.Tie as tie
@@ -65,11 +64,9 @@ loop-again c =
     (search needs, search needs, c .before .before .loop .inv .2 ∙ fill _ _ _ _ _ (c .before .loop-test .taken) k)
 
 returns : tie.Need-returns Inv-loop μ-loop
-returns c size =
+returns c =
     let e : c .before .loop .i ≡ c .before .before .args .count = omega arith in
-    let pairs = take (c .before .before .args .count) (c .before .before .args .t3) in
-    let many : length pairs ≡ c .before .before .args .count = length-take-le _ _ (search needs) in
-    sym (c .before .loop .inv .2 ∙ rw (e, slice-empty)) ∙ stores-over _ _ _ (omega (arith, counts-length pairs))
+    sym (c .before .loop .inv .2 ∙ rw (e, slice-empty)) ∙ stores-stored _ _ _
 
 pub keep-spec : {M : Type 1} → statement M
 keep-spec =

@@ -66,34 +66,34 @@ stop-ir-requires : tie.Need-stop-ir-requires
 stop-ir-requires c κs = rw (c .before .request8 .given .1) at (c .before .before .before .before .pre .1)
 
 returns : tie.Need-returns
-returns c = rw (c .before .before .request .given .1) (record { result = c .error .ensures; kept = λ _. refl })
+returns c = rw (c .before .before .request .given .1) (record { result = c .error .ensures; kept = refl })
 
 returns-2 : tie.Need-returns-2
-returns-2 c = rw (c .before .enum-told .given .1) (record { result = c .replied .ensures; kept = λ _. refl })
+returns-2 c = rw (c .before .enum-told .given .1) (record { result = c .replied .ensures; kept = refl })
 
 returns-3 : tie.Need-returns-3
-returns-3 c = rw (c .before .enum-told2 .given .1) (record { result = c .replied2 .ensures; kept = λ _. refl })
+returns-3 c = rw (c .before .enum-told2 .given .1) (record { result = c .replied2 .ensures; kept = refl })
 
 returns-4 : tie.Need-returns-4
-returns-4 c = rw (c .before .before .request2 .given .1) (record { result = c .set-ir .ensures; kept = λ _. refl })
+returns-4 c = rw (c .before .before .request2 .given .1) (record { result = c .set-ir .ensures; kept = refl })
 
 returns-5 : tie.Need-returns-5
-returns-5 c = rw (c .before .before .request3 .given .1) (record { result = c .get-ir .ensures; kept = λ _. refl })
+returns-5 c = rw (c .before .before .request3 .given .1) (record { result = c .get-ir .ensures; kept = refl })
 
 returns-6 : tie.Need-returns-6
-returns-6 c = rw (c .before .before .request4 .given .1) (record { result = c .set-state .ensures; kept = λ _. refl })
+returns-6 c = rw (c .before .before .request4 .given .1) (record { result = c .set-state .ensures; kept = refl })
 
 returns-7 : tie.Need-returns-7
-returns-7 c = rw (c .before .before .request5 .given .1) (record { result = c .get-relay .ensures; kept = λ _. refl })
+returns-7 c = rw (c .before .before .request5 .given .1) (record { result = c .get-relay .ensures; kept = refl })
 
 returns-8 : tie.Need-returns-8
-returns-8 c = rw (c .before .before .request6 .given .1) (record { result = c .get-contact .ensures; kept = λ _. refl })
+returns-8 c = rw (c .before .before .request6 .given .1) (record { result = c .get-contact .ensures; kept = refl })
 
 returns-9 : tie.Need-returns-9
 returns-9 c = rw (c .before .before .before .request7 .given .1) (c .sent .ensures)
 
 returns-10 : tie.Need-returns-10
-returns-10 c = rw (c .before .before .request8 .given .1) (record { result = c .stop-ir .ensures; kept = λ _. refl })
+returns-10 c = rw (c .before .before .request8 .given .1) (record { result = c .stop-ir .ensures; kept = refl })
 
 pub asked-spec : {M : Type 1} → statement M
 asked-spec =

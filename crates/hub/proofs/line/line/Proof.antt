@@ -13,14 +13,14 @@ refused-requires c κs = search needs
 
 returns : tie.Need-returns
 unfolding lineStep
-returns c = rw (lt-ltb _ _ (c .before .if1 .taken)) (record { writes = record { result = c .refused .ensures; laid = sym (over-nothing _ 0) }; kept = λ _. refl })
+returns c = rw (lt-ltb _ _ (c .before .if1 .taken)) (record { writes = record { result = c .refused .ensures; laid = sym (over-nothing _ 0) }; kept = refl })
 
 refused-requires-2 : tie.Need-refused-requires-2
 refused-requires-2 c κs = search needs
 
 returns-2 : tie.Need-returns-2
 unfolding lineStep
-returns-2 c = rw (le-ltb _ _ (c .before .before .if1 .left), lt-ltb _ _ (c .before .if2 .taken)) (record { writes = record { result = c .refused2 .ensures; laid = sym (over-nothing _ 0) }; kept = λ _. refl })
+returns-2 c = rw (le-ltb _ _ (c .before .before .if1 .left), lt-ltb _ _ (c .before .if2 .taken)) (record { writes = record { result = c .refused2 .ensures; laid = sym (over-nothing _ 0) }; kept = refl })
 
 read-request-requires : tie.Need-read-request-requires
 read-request-requires c κs = search needs

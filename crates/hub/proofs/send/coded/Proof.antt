@@ -44,14 +44,14 @@ returns : tie.Need-returns
 unfolding codeStep
 returns c =
     let g = given (c .before .before .before) in
-    rw (g .0, g .1, le-ltb _ _ (c .before .if1 .taken)) (record { result = c .error2 .ensures; kept = λ _. refl })
+    rw (g .0, g .1, le-ltb _ _ (c .before .if1 .taken)) (record { result = c .error2 .ensures; kept = refl })
 
 send-requires : tie.Need-send-requires
 send-requires c κs = (c .before .before .before .before .before .before .before .before .before .pre .0, c .before .before .before .before .before .before .before .before .before .pre .1, few (c .before .before .before .before), c .before .before .if1 .left)
 
 returns-2 : tie.Need-returns-2
 unfolding codeStep
-returns-2 c = rw (code-fault (readCode (c .before .before .before .before .before .before .args .f .freq) (now (c .before .before .before .before .before .before .args .text)) (c .before .before .before .before .before .before .args .at)) (c .before .before .before .before .read-code .ensures) (c .before .before .read .given .1)) (record { result = c .error .ensures; kept = λ _. refl })
+returns-2 c = rw (code-fault (readCode (c .before .before .before .before .before .before .args .f .freq) (now (c .before .before .before .before .before .before .args .text)) (c .before .before .before .before .before .before .args .at)) (c .before .before .before .before .read-code .ensures) (c .before .before .read .given .1)) (record { result = c .error .ensures; kept = refl })
 
 returns-3 : tie.Need-returns-3
 unfolding codeStep

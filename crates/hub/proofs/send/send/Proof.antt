@@ -54,13 +54,13 @@ returns-2 : tie.Need-returns-2
 unfolding sendStep
 returns-2 c =
     rw (← c .before .before .before .before .before .before .before .slot-of .ensures, sym (c .before .before .before .before .judge .ensures) ∙ c .before .before .enum-told2 .given .1, ← c .before .before .before .before .before .before .before .slot-of .ensures)
-    (record { result = rw (c .put-connector2 .ensures, c .before .renewed .ensures); kept = λ _. refl })
+    (record { result = rw (c .put-connector2 .ensures, c .before .renewed .ensures); kept = refl })
 
 returns-3 : tie.Need-returns-3
 unfolding sendStep
 returns-3 c =
     rw (← c .before .before .before .before .before .slot-of .ensures, sym (c .before .before .judge .ensures) ∙ c .enum-told3 .given .1)
-    (record { result = refl; kept = λ _. refl })
+    (record { result = refl; kept = refl })
 
 pub send-spec : {M : Type 1} → statement M
 send-spec =

@@ -21,7 +21,7 @@ error-requires c κs = search needs
 
 returns : tie.Need-returns
 unfolding sentStep
-returns c = rw (← c .before .before .before .before .slot-of .ensures, ← c .before .before .transmits-not .ensures, c .before .if1 .taken) (record { result = c .error .ensures; kept = λ _. refl })
+returns c = rw (← c .before .before .before .before .slot-of .ensures, ← c .before .before .transmits-not .ensures, c .before .if1 .taken) (record { result = c .error .ensures; kept = refl })
 
 enum-known-sent : tie.Need-enum-known-sent
 enum-known-sent c = search needs
@@ -37,7 +37,7 @@ coded-requires c κs = (c .before .before .before .before .before .before .befor
 
 returns-2 : tie.Need-returns-2
 unfolding sentStep
-returns-2 c = rw (← c .before .before .before .before .before .before .before .slot-of .ensures, ← c .before .before .before .before .before .transmits-not .ensures, c .before .before .before .before .if1 .left, c .before .before .sent .given .1) (record { result = c .error2 .ensures; kept = λ _. refl })
+returns-2 c = rw (← c .before .before .before .before .before .before .before .slot-of .ensures, ← c .before .before .before .before .before .transmits-not .ensures, c .before .before .before .before .if1 .left, c .before .before .sent .given .1) (record { result = c .error2 .ensures; kept = refl })
 
 returns-3 : tie.Need-returns-3
 unfolding sentStep

@@ -1,4 +1,4 @@
--- Bytes laid into a buffer that is too short for them, or not.
+-- Text laid into memory of a fixed length, which may be too short for it.
 use Prim.Native.Nat.{ℕ, suc, _+_, _-_, _≤_}
 use mathlib.Core.Path.{_≡_, refl, sym, ap, _∙_}
 use mathlib.Core.List.{List, [], _∷_}
@@ -7,11 +7,10 @@ use lib.Dec.{leb}
 use lib.ListN.{length, take, drop, take-append-drop}
 use lib.Seq.{sets, set-out, length-sets, length-take-le, take-all}
 use borrow.Author.Tests.{leb-true, leb-false}
-use Rattle.laws.specs.Put.{over}
+use Rattle.laws.specs.Put.{over, storedIn}
 use Rattle.laws.proofs.Choice.{by-test}
 use Rattle.laws.proofs.Lists.{sets-append}
 use Rattle.laws.proofs.Put.{stores-over, over-nothing}
-use Rattle.lines.specs.Take.{storedIn}
 
 -- behind the buffer's end nothing is stored
 pub sets-out : (vs l : List ℕ) (i : ℕ) → length l ≤ i → sets l i vs ≡ l

@@ -20,7 +20,9 @@ use Rattle.meaning.specs.Time.{Transmission, countsOf, complete}
 use Rattle.meaning.specs.Time as time
 use Rattle.meaning.specs.Log.{Deed, setting, event, changed, renewed, halted, now, modeOf, contactOf, lastOf, ownerOf, until, onAir}
 use Rattle.meaning.specs.Table.{Call, line, Judged, error, does, taken, replied, deedsOf, reply, answerOf, isSame, judge, logged}
-use Rattle.theorems.specs.Spelled.{Digits, ModeFor, fields, at, Heard, IsSendir, modeSet, starts, commanded, toldOf, stopped}
+use Rattle.theorems.proofs.Times.{on-air-is}
+use Rattle.theorems.specs.Deeds.{ModeWord}
+use Rattle.theorems.specs.Spelled.{Digits, fields, at, Heard, IsSendir, modeSet, starts, commanded, toldOf, stopped}
 use Rattle.theorems.specs.Commands.{Starts, Renews, Busy, Tells, another, idle, ownerless, itself, Stops}
 use Rattle.theorems.proofs.Spelled.{sendir-judged, set-IR-spelled, stopir-spelled}
 
@@ -64,18 +66,6 @@ same-refl f ps s e g =
       g,
       same-self (countsOf ps),
     )
-
--- what is on air was started last
-last-on-air : (p : ℕ) (log : List Deed) (t : Transmission) → onAir p log ≡ some t → lastOf p log ≡ some t
-unfolding onAir
-last-on-air p log t e = go (now log) (lastOf p log) e
-  where
-    go : (n : ℕ) (o : Option Transmission) → until n o ≡ some t → o ≡ some t
-    go n none f = f
-    go n (some s) f =
-        by-test (complete s n)
-        (λ c. let g : none ≡ some t = rw c at f in let z : _≡_ {A = ℕ} 0 1 = cc in absurd (omega arith))
-        (λ c. rw c at f)
 
 -- ---- what a deed leaves behind
 module _ (log : List Deed) (call : Call) (connection p : ℕ) (f : Fields) (ps : List Pair) where
@@ -121,7 +111,7 @@ module _ (log : List Deed) (connection room : ℕ) (s : List ℕ) (p : ℕ) (f :
     owner-renews o ef ep =
         let c : commanded log connection p f ps ≡ does (taken []) (event (renewed p) ∷ []) =
         rw (mode, air, o, eq-eqb connection connection refl, same-refl f ps t ef ep) in
-        renewed-so log call connection p f ps t (judged ∙ c) o (last-on-air p log t air) ef ep
+        renewed-so log call connection p f ps t (judged ∙ c) o (on-air-is p log t air .0) ef ep
 
     -- "From the owner with any other field: the old one is dropped without a notice and the new one starts."
     pub owner-starts-anew : ownerOf p log ≡ some connection → (t .fields ≡ f → t .pairs ≡ ps → ⊥) → Starts log call connection p f ps
@@ -180,7 +170,7 @@ stop-tells log connection room {dm} {dp} {p} h one port least most mode =
 
 -- ---- set_IR
 module _ (log : List Deed) (connection room : ℕ) {dm dp mode : List ℕ} {p : ℕ} (h : Heard connection room) (one : Digits dm 1)
-    (port : Digits dp p) (least : 1 ≤ p) (most : p ≤ 3) (word : ModeFor p mode) where
+    (port : Digits dp p) (least : 1 ≤ p) (most : p ≤ 3) (word : ModeWord p mode) where
   abbrev setting-line : Call
   setting-line = line connection room (fields (bytes "set_IR" ∷ at dm dp ∷ mode ∷ []))
 

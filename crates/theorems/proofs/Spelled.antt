@@ -23,7 +23,8 @@ use Rattle.meaning.specs.Line.{is, number, isNumber, within, isAddress, isCount
 use Rattle.meaning.specs.Log.{Deed}
 use Rattle.meaning.specs.Table.{Judged, Row, line, judge, request, getdevices, getversion, set-IR, get-IR, setstate, getstate, sendir, stopir}
 use Rattle.theorems.proofs.Occasions.{within-between, only}
-use Rattle.theorems.specs.Spelled.{Digits, ModeFor, ir, sensor, blaster, fields, at, Heard, Legal, command, IsSendir, devicesTold, versionTold, modeSet, modeTold, relaySet, relayTold, contactTold, commanded, stopped}
+use Rattle.theorems.specs.Deeds.{ModeWord, ir, sensor, blaster}
+use Rattle.theorems.specs.Spelled.{Digits, fields, at, Heard, Legal, command, IsSendir, devicesTold, versionTold, modeSet, modeTold, relaySet, relayTold, contactTold, commanded, stopped}
 
 -- ---- a line that is heard, by its length and its bytes, is judged by its request's row
 module _ (log : List Deed) (connection room : ℕ) (s : List ℕ) (h : Heard connection room) (short : length s ≤ 4096)
@@ -185,10 +186,10 @@ record Worded (p : ℕ) (mode : List ℕ) : Type 0 where
   allowed : (is "IR_BLASTER" mode && not (eqb p 3)) ≡ false
   fair : plain mode ≡ true
 
-worded : {p : ℕ} {mode : List ℕ} → ModeFor p mode → Worded p mode
-worded ir = record { listed = refl; allowed = refl; fair = refl }
-worded sensor = record { listed = refl; allowed = refl; fair = refl }
-worded {p} (blaster e) = record { listed = refl; allowed = rw (eq-eqb p 3 e); fair = refl }
+worded : {p : ℕ} {mode : List ℕ} → ModeWord p mode → Worded p mode
+worded (ir w) = rw w (record { listed = refl; allowed = refl; fair = refl })
+worded (sensor w) = rw w (record { listed = refl; allowed = refl; fair = refl })
+worded {p} (blaster w e) = rw w (record { listed = refl; allowed = rw (eq-eqb p 3 e); fair = refl })
 
 module _ (log : List Deed) (connection : ℕ) (s : List ℕ) where
   getdevices-row : cut 44 s ≡ bytes "getdevices" ∷ [] → asked log connection s ≡ devicesTold
@@ -250,7 +251,7 @@ module _ (log : List Deed) (connection room : ℕ) (h : Heard connection room) w
 
   module _ {dm dp : List ℕ} {p : ℕ} (port : Digits dp p) (least : 1 ≤ p) (most : p ≤ 3) where
     -- set_IR,1:p,mode
-    pub set-IR-spelled : {mode : List ℕ} → Digits dm 1 → ModeFor p mode
+    pub set-IR-spelled : {mode : List ℕ} → Digits dm 1 → ModeWord p mode
         → judge log (line connection room (fields (bytes "set_IR" ∷ at dm dp ∷ mode ∷ []))) ≡ modeSet log p mode
     set-IR-spelled {mode} one w =
         let a = is-at one port least most in

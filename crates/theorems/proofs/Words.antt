@@ -62,53 +62,6 @@ same-pair-means p q = (there, λ e. rw (e, eq-eqb (q .on) (q .on) refl, eq-eqb (
         λ i. record { on = a i; off = b i })
         (λ t. not-both (rw t at e) refl)
 
--- counts tell their pairs
-counts-tell : (ps qs : List Pair) → countsOf ps ≡ countsOf qs → ps ≡ qs
-counts-tell [] [] e = refl
-counts-tell [] (q ∷ qs) e = clash (cc)
-counts-tell (p ∷ ps) [] e = clash (cc)
-counts-tell (p ∷ ps) (q ∷ qs) e =
-    let a : p .on ≡ q .on = cc in
-    let b : p .off ≡ q .off = cc in
-    let t : countsOf ps ≡ countsOf qs = cc in
-    let r = counts-tell ps qs t in
-    λ i. record { on = a i; off = b i } ∷ r i
-
-five : (a b c d e : Bool) → a && b && c && d && e ≡ true → (a ≡ true) × (b ≡ true) × (c ≡ true) × (d ≡ true) × (e ≡ true)
-five true true true true e h = (refl, refl, refl, refl, h)
-five true true true false e h = not-both h refl
-five true true false d e h = not-both h refl
-five true false c d e h = not-both h refl
-five false b c d e h = not-both h refl
-
--- "equal id, freq, capped repeat, offset and pairs": the transmission has these very fields and pairs
-pub is-same-means : (f : Fields) (ps : List Pair) (s : Transmission) → (isSame f ps s ≡ true) ↔ ((s .fields ≡ f) × (s .pairs ≡ ps))
-is-same-means f ps s = (there, back)
-  where
-    there : isSame f ps s ≡ true → (s .fields ≡ f) × (s .pairs ≡ ps)
-    there e =
-        let a =
-        five (eqb (s .fields .id) (f .id)) (eqb (s .fields .freq) (f .freq)) (eqb (s .fields .repeat) (f .repeat))
-        (eqb (s .fields .offset) (f .offset)) (same (countsOf ps) (countsOf (s .pairs))) e in
-        let id = eqb-true (s .fields .id) (f .id) (a .0) in
-        let freq = eqb-true (s .fields .freq) (f .freq) (a .1) in
-        let repeat = eqb-true (s .fields .repeat) (f .repeat) (a .2) in
-        let offset = eqb-true (s .fields .offset) (f .offset) (a .3) in
-        let fields : s .fields ≡ f = λ i. record { id = id i; freq = freq i; repeat = repeat i; offset = offset i } in
-        (fields, sym (counts-tell ps (s .pairs) (same-is (countsOf ps) (countsOf (s .pairs)) (a .4))))
-
-    back : (s .fields ≡ f) × (s .pairs ≡ ps) → isSame f ps s ≡ true
-    back h =
-        rw (
-          h .0,
-          h .1,
-          eq-eqb (f .id) (f .id) refl,
-          eq-eqb (f .freq) (f .freq) refl,
-          eq-eqb (f .repeat) (f .repeat) refl,
-          eq-eqb (f .offset) (f .offset) refl,
-          same-self (countsOf ps),
-        )
-
 -- a digit is a byte from 48, "0", to 57, "9"
 pub digit-means : (b : ℕ) → (isDigit b ≡ true) ↔ ((48 ≤ b) × (b ≤ 57))
 digit-means b = (digit-range b, λ h. rw (le-ltb b 48 (h .0), le-leb b 57 (h .1)))

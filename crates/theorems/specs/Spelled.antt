@@ -25,12 +25,6 @@ pub record Digits (ds : List ℕ) (n : ℕ) : Type 0 where
   pub digits : all isDigit ds ≡ true
   pub value : worth 0 ds ≡ n
 
--- "set_IR,1:p,mode": IR_BLASTER on connector 3 alone
-pub data ModeFor (p : ℕ) : List ℕ → Type 0 where
-  ir : ModeFor p (bytes "IR")
-  sensor : ModeFor p (bytes "SENSOR")
-  blaster : p ≡ 3 → ModeFor p (bytes "IR_BLASTER")
-
 -- fields with commas between them; an address m:p
 abbrev pub fields : List (List ℕ) → List ℕ
 fields l = joined 44 l

@@ -2,11 +2,11 @@
 use Prim.Native.Nat.{ℕ, _+_}
 use mathlib.Core.Path.{_≡_}
 use mathlib.Core.List.{List, [], _∷_, _++_, map}
+use Rattle.meaning.specs.Table.{Call, waiting}
 use Rattle.pace.specs.Pace.{micros}
 use Rattle.connector.specs.declared.Completion.{Completion}
 use Rattle.hub.specs.declared.Hub.{Hub}
-use Rattle.history.specs.Calls.{Call, waiting}
-use Rattle.history.specs.Replay.{Outcome, called, run}
+use Rattle.history.specs.Run.{Outcome, called, run}
 
 -- a moment counted from earlier
 abbrev pub movedBy : ℕ → Completion → Completion

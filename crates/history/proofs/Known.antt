@@ -1,5 +1,7 @@
--- What a connector and a relay are after a history. A wait changes nothing but the clock.
-use Prim.Native.Nat.{ℕ}
+-- A step of the proof that the hub gives what its history means: what one connector is known to be, and what a request makes of it. The log
+-- book shows such a record at each port (proofs/View.antt), and the hub's own record shows it in its way (proofs/Shown.antt). No statement
+-- that a reader meets names it.
+use Prim.Native.Nat.{ℕ, _+_, _-_}
 use mathlib.Core.Bool.{Bool, true, false, cond, not, _&&_}
 use mathlib.Core.List.{List, [], _∷_}
 use mathlib.Core.Option.{Option, none, some}
@@ -7,25 +9,28 @@ use lib.Dec.{ltb, eqb}
 use lib.ListN.{length}
 use Rattle.laws.specs.Checks.{_⇒_, first}
 use Rattle.words.specs.declared.Pair.{Pair}
+use Rattle.words.specs.declared.Fields.{Fields}
+use Rattle.meaning.specs.Time.{Transmission, countsOf, complete, finish, carrier, started, renewed}
 use Rattle.code.specs.Limits.{offsetWithin}
 use Rattle.code.specs.Read.{Reading, pairs, fault, readCode}
 use Rattle.request.specs.declared.mode.Mode.{Mode}
-use Rattle.request.specs.declared.mode.Mode.the-variants.{Ir}
-use Rattle.words.specs.declared.Fields.{Fields}
 use Rattle.request.specs.declared.fields.Sent.{Sent}
 use Rattle.request.specs.declared.fields.Sent.the-variants as sent
 use Rattle.request.specs.declared.Request.{Request}
 use Rattle.request.specs.declared.Request.the-variants as request
-use Rattle.request.specs.Request.{readRequest}
-use Rattle.meaning.specs.Time.{countsOf, Transmission, complete, started, renewed}
+use Rattle.reply.specs.declared.Reply.{Reply}
+use Rattle.reply.specs.declared.Reply.the-variants as reply
 use Rattle.store.specs.Store.{alike}
+use Rattle.pace.specs.Pace.{micros}
 use Rattle.connector.specs.declared.Owner.{Owner}
 use Rattle.connector.specs.declared.Owner.the-variants.{Nobody, Connection}
 use Rattle.connector.specs.declared.Contact.{Contact}
 use Rattle.connector.specs.declared.Contact.the-variants.{Unread, Read}
+use Rattle.connector.specs.declared.Completion.{Completion}
 use Rattle.connector.specs.Change.{sameMode, owns, toldOf, sameFields}
 use Rattle.connector.specs.Send.{transmitsNot}
-use Rattle.history.specs.Calls.{Call, line, overlong, reading, closing, waiting, clock}
+use Rattle.hub.specs.declared.Answer.{Answer}
+use Rattle.hub.specs.declared.Answer.the-variants as answer
 
 -- `sending` is the transmission that was started last and not stopped, complete or not
 pub record Known : Type 0 where
@@ -33,10 +38,6 @@ pub record Known : Type 0 where
   pub mode : Mode
   pub contact : Contact
   pub sending : Option Transmission
-
--- "A fresh hub has every connector in mode IR and idle, every contact unread"
-abbrev pub fresh : Known
-fresh = record { owner = Nobody; mode = Ir; contact = Unread; sending = none }
 
 abbrev pub withSending : Known → Owner → Option Transmission → Known
 withSending x owner sending = record { owner = owner; mode = x .mode; contact = x .contact; sending = sending }
@@ -53,14 +54,11 @@ isSome (some s) = true
 abbrev pub transmits : ℕ → Known → Bool
 transmits t x = isSome (onAir t (x .sending))
 
--- ---- a sendir
-
--- its first fault, or its command
+-- ---- a sendir: its first fault, or its command
 pub data Sendir : Type 0 where
   wrong : ℕ → Sendir
   command : Fields → List Pair → Sendir
 
--- "004, 005, 006, 007, code faults, 007 for an offset beyond the code"
 abbrev pub codeOf : Fields → Reading → Sendir
 codeOf f (fault number) = wrong number
 codeOf f (pairs ps) = cond (offsetWithin (f .offset) (length ps)) (command f ps) (wrong 7)
@@ -69,12 +67,10 @@ abbrev pub sendirOf : List ℕ → Sent → Sendir
 sendirOf text (sent.Fault number) = wrong number
 sendirOf text (sent.Fields f at) = codeOf f (readCode (f .freq) text at)
 
--- "equal id, freq, capped repeat, offset and pairs (plain or lettered alike)"
 unfoldable pub sameCommand : Transmission → Fields → List Pair → Bool
 sameCommand s f ps = sameFields (s .fields) f && alike (countsOf (s .pairs)) (countsOf ps)
 
--- a command from a connection at a moment, to a connector that has this on air: an idle one "starts with the sender as owner"; "From another
--- connection, or if there is no owner: busyIR .. hub unchanged"; from the owner an equal one renews, any other starts
+-- a command at a moment, to a connector that has this on air
 abbrev pub commanded : ℕ → ℕ → Known → Fields → List Pair → Option Transmission → Known
 commanded t connection x f ps none = withSending x (Connection connection) (some (started f ps t))
 commanded t connection x f ps (some s) = first
@@ -86,15 +82,13 @@ abbrev pub sentTo : ℕ → ℕ → Known → Sendir → Known
 sentTo t connection x (wrong number) = x
 sentTo t connection x (command f ps) = commanded t connection x f ps (onAir t (x .sending))
 
--- ---- a line
-
--- "a change of mode makes the contact unread, the present mode again changes nothing"
+-- ---- what a request makes of a connector
 abbrev pub withMode : Known → Mode → Known
 withMode x mode =
     cond (sameMode (x .mode) mode) x
     (record { owner = x .owner; mode = mode; contact = Unread; sending = x .sending })
 
--- whether a request may change this connector
+-- whether it may change connector p
 abbrev pub concerns : Request → ℕ → Bool
 concerns (request.Fault number m port) p = false
 concerns request.GetDevices p = false
@@ -107,7 +101,6 @@ concerns (request.GetContact port) p = false
 concerns (request.SendIr port s) p = eqb port p
 concerns (request.StopIr port) p = eqb port p
 
--- and what it makes of it: 029 "set_IR while that connector transmits", 013 "sendir or stopir to a connector in SENSOR"
 abbrev pub asked : ℕ → ℕ → List ℕ → Known → Request → Known
 asked t connection text x (request.Fault number m port) = x
 asked t connection text x request.GetDevices = x
@@ -120,30 +113,11 @@ asked t connection text x (request.GetContact port) = x
 asked t connection text x (request.SendIr port s) = cond (transmitsNot (x .mode)) x (sentTo t connection x (sendirOf text s))
 asked t connection text x (request.StopIr port) = cond (transmitsNot (x .mode)) x (withSending x Nobody none)
 
--- 104 "contact reading for a port .. not in SENSOR, or not 0 or 1"
-abbrev pub readAs : Known → ℕ → Known
-readAs x value = first
-    ((not (transmitsNot (x .mode)) ⇒ x)
-    ∷ (ltb 1 value ⇒ x)
-    ∷ []) (record { owner = x .owner; mode = x .mode; contact = Read value; sending = x .sending })
+-- what connector p is after a request, of all that the connectors were
+abbrev pub made : ℕ → ℕ → List ℕ → (ℕ → Known) → Request → ℕ → Known
+made t connection text K r p = cond (concerns r p) (asked t connection text (K p) r) (K p)
 
--- ---- after a history
-
--- connector p; 102 "connection above 7", 101 "lent reply buffer under 128 bytes"; "its transmissions run on with no owner"
-abbrev pub known : List Call → ℕ → Known
-known [] p = fresh
-known (line connection room text ∷ h) p = first
-    ((ltb 7 connection ⇒ known h p)
-    ∷ (ltb room 128 ⇒ known h p)
-    ∷ (concerns (readRequest text) p ⇒ asked (clock h) connection text (known h p) (readRequest text))
-    ∷ []) (known h p)
-known (overlong connection room ∷ h) p = known h p
-known (reading port value ∷ h) p = cond (eqb port p) (readAs (known h p) value) (known h p)
-known (closing connection ∷ h) p =
-    cond (ltb 7 connection) (known h p) (withSending (known h p) (toldOf (known h p .owner) connection) (known h p .sending))
-known (waiting n ∷ h) p = known h p
-
--- relay p: "every relay open (0)", then as it was last set
+-- what it makes of relay p
 abbrev pub relaySet : ℕ → ℕ → Request → ℕ
 relaySet p state (request.Fault number m port) = state
 relaySet p state request.GetDevices = state
@@ -156,13 +130,59 @@ relaySet p state (request.GetContact port) = state
 relaySet p state (request.SendIr port s) = state
 relaySet p state (request.StopIr port) = state
 
-abbrev pub relay : List Call → ℕ → ℕ
-relay [] p = 0
-relay (line connection room text ∷ h) p = first
-    ((ltb 7 connection ⇒ relay h p)
-    ∷ (ltb room 128 ⇒ relay h p)
-    ∷ []) (relaySet p (relay h p) (readRequest text))
-relay (overlong connection room ∷ h) p = relay h p
-relay (reading port value ∷ h) p = relay h p
-relay (closing connection ∷ h) p = relay h p
-relay (waiting n ∷ h) p = relay h p
+-- ---- what a request is answered, at a moment, by connectors and relays
+abbrev pub replied : Reply → Answer
+replied r = answer.Reply r Nobody
+
+abbrev pub error : ℕ → ℕ → ℕ → Answer
+error number m port = replied (reply.Error number m port)
+
+abbrev pub contactSaid : ℕ → Contact → Answer
+contactSaid port Unread = error 28 1 port
+contactSaid port (Read value) = replied (reply.State 1 port value)
+
+abbrev pub commandSaid : ℕ → ℕ → Known → Fields → Option Transmission → Answer
+commandSaid connection port x f none = answer.Taken
+commandSaid connection port x f (some s) = cond (owns (x .owner) connection) answer.Taken (replied (reply.Busy port (f .id)))
+
+abbrev pub sendirSaid : ℕ → ℕ → ℕ → Known → Sendir → Answer
+sendirSaid t connection port x (wrong number) = error number 1 port
+sendirSaid t connection port x (command f ps) = commandSaid connection port x f (onAir t (x .sending))
+
+abbrev pub told : ℕ → Known → Option Transmission → Owner
+told connection x none = Nobody
+told connection x (some s) = toldOf (x .owner) connection
+
+abbrev pub requestSaid : ℕ → (ℕ → Known) → (ℕ → ℕ) → ℕ → List ℕ → Request → Answer
+requestSaid t K R connection text (request.Fault number m port) = error number m port
+requestSaid t K R connection text request.GetDevices = replied reply.Devices
+requestSaid t K R connection text request.GetVersion = replied reply.Version
+requestSaid t K R connection text (request.SetIr port mode) =
+    cond (transmits t (K port)) (error 29 1 port) (replied (reply.Mode port mode))
+requestSaid t K R connection text (request.GetIr port) = replied (reply.Mode port (K port .mode))
+requestSaid t K R connection text (request.SetState port state) = replied (reply.State 2 port state)
+requestSaid t K R connection text (request.GetRelay port) = replied (reply.State 2 port (R port))
+requestSaid t K R connection text (request.GetContact port) =
+    cond (not (transmitsNot (K port .mode))) (error 18 1 port) (contactSaid port (K port .contact))
+requestSaid t K R connection text (request.SendIr port s) =
+    cond (transmitsNot (K port .mode)) (error 13 1 port) (sendirSaid t connection port (K port) (sendirOf text s))
+requestSaid t K R connection text (request.StopIr port) =
+    cond (transmitsNot (K port .mode)) (error 13 1 port)
+    (answer.Reply (reply.Stopped port) (told connection (K port) (onAir t (K port .sending))))
+
+-- ---- a reading, and the completion of a wait
+abbrev pub readAs : Known → ℕ → Known
+readAs x value = first
+    ((not (transmitsNot (x .mode)) ⇒ x)
+    ∷ (ltb 1 value ⇒ x)
+    ∷ []) (record { owner = x .owner; mode = x .mode; contact = Read value; sending = x .sending })
+
+abbrev pub dueOf : ℕ → ℕ → ℕ → Known → Option Transmission → List Completion
+dueOf t n port x none = []
+dueOf t n port x (some s) =
+    cond (complete s (t + n))
+    (record { owner = x .owner; moment = micros (finish s - t); port = port; id = s .fields .id } ∷ []) []
+
+abbrev pub carrierOf : ℕ → Option Transmission → Bool
+carrierOf t none = false
+carrierOf t (some s) = carrier s t

@@ -28,7 +28,7 @@ use Rattle.hub.specs.declared.Answer.the-variants as answer
 use Rattle.hub.specs.declared.Hub.{Hub}
 use Rattle.hub.specs.Record.{connectorAt, withConnector}
 use Rattle.hub.specs.Send.{decidedAs, unchanged}
-use Rattle.hub.specs.Calls.{decidedRefusal, readingStep, closedStep, carriersOf}
+use Rattle.hub.specs.Calls.{decidedRefusal, readingStep, closedHub, carriersOf}
 use Rattle.hub.specs.Wait as waits
 use Rattle.hub.specs.Wait.{passedAt, waitedHub}
 use Rattle.history.specs.Run.{listed}
@@ -108,16 +108,14 @@ module _ (t : ℕ) (K : ℕ → Known) (R : ℕ → ℕ) (fit : (p : ℕ) → Fi
         record { size = st .size; held = λ port w. held-later (port - 1) n (K port .sending) (fit port) (st .held port w) }
 
     -- ---- a closing
-    pub closed-means : (connection : ℕ) → ltb 7 connection ≡ false
-        → Means t answer.Taken (leftBy K connection) R (unchanged (closedStep hub connection) store)
-    unfolding closedStep
-    closed-means connection e =
-        rw e
-        (record {
+    pub closed-means : (connection : ℕ)
+        → Means t answer.Taken (leftBy K connection) R (unchanged (decidedAs answer.Taken (closedHub hub connection)) store)
+    closed-means connection =
+        record {
           said = refl;
           hub = sym (λ i. record { connectors = three (λ p. closed-shown t connection (K p) i); relays = three R });
           stored = record { size = st .size; held = st .held };
-        })
+        }
 
     -- ---- a reading
     pub reading-means : (port value : ℕ)

@@ -1,3 +1,4 @@
 pub mod Heard
 pub mod Run
 pub mod Waiting
+pub mod Copies

@@ -1,15 +1,17 @@
 -- Laws of lists that the library lacks.
-use Prim.Native.Nat.{ℕ, zero, suc, _+_, _-_, _≤_, _<_}
+use Prim.Native.Nat.{ℕ, zero, suc, _+_, _≤_, _<_}
 use mathlib.Core.Path.{_≡_, refl, sym, ap, _∙_}
 use mathlib.Core.List.{List, [], _∷_, _++_}
 use mathlib.Core.Bool.{Bool, true, false}
 use native.Mathlib.Nat.{add-zero, add-suc, suc-add}
 use native.Mathlib.Numerals.{add-one}
 use native.Mathlib.Omega.{arith}
+use borrow.Author.Tests.{eqb-true}
+use lib.Dec.{eqb}
 use lib.ListN.{length, take, drop, getD, set, length-drop, drop-of-length-le}
 use lib.Seq.{drop-cons, drop-drop, drop-append-seam, getD-drop, getD-take, length-take-le, sets}
-use Rattle.laws.specs.Lists.{leading, all}
-use Rattle.laws.proofs.Choice.{cond-case, and-left, and-right, and-true}
+use Rattle.laws.specs.Lists.{leading, all, same}
+use Rattle.laws.proofs.Choice.{cond-case, not-both, and-left, and-right, and-true}
 
 -- one step of a scan: the element at i, and what is behind it
 pub drop-next : {A : Type 0} (s : List A) (i : ℕ) (d : A) → i < length s → drop i s ≡ getD s i d ∷ drop (i + 1) s
@@ -77,6 +79,23 @@ pub all-weaker : {A : Type 0} (p q : A → Bool) → ((b : A) → p b ≡ true �
 all-weaker p q f [] e = refl
 all-weaker p q f (b ∷ l) e =
     and-true (q b) (all q l) (f b (and-left (p b) (all p l) e)) (all-weaker p q f l (and-right (p b) (all p l) e))
+
+-- two tests that agree
+pub all-alike : {A : Type 0} (p q : A → Bool) → ((b : A) → p b ≡ q b) → (l : List A) → all p l ≡ all q l
+all-alike p q f [] = refl
+all-alike p q f (b ∷ l) = rw (f b, all-alike p q f l)
+
+-- ---- lists that are the same numbers
+pub same-is : (w l : List ℕ) → same w l ≡ true → w ≡ l
+same-is [] [] e = refl
+same-is [] (b ∷ l) e = not-both e refl
+same-is (a ∷ w) [] e = not-both e refl
+same-is (a ∷ w) (b ∷ l) e =
+    rw (eqb-true b a (and-left (eqb b a) (same w l) e), same-is w l (and-right (eqb b a) (same w l) e))
+
+pub none-is : {A : Type 0} (l : List A) → length l ≡ 0 → l ≡ []
+none-is [] e = refl
+none-is (b ∷ l) e = absurd (omega arith)
 
 -- ---- stores one after the other
 pub sets-append : {A : Type 0} (vs ws l : List A) (i : ℕ) → sets l i (vs ++ ws) ≡ sets (sets l i vs) (i + length vs) ws

@@ -1,0 +1,5 @@
+pub mod Meant
+pub mod Cursor
+pub mod Bytewise
+pub mod Codes
+pub mod Rows

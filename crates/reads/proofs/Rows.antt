@@ -1,0 +1,250 @@
+-- Each row of the table gives what the log makes of the request that the line is read as.
+use Prim.Native.Nat.{ℕ, suc, _+_, _%_, _<_}
+use mathlib.Core.Path.{_≡_, refl, sym, ap, _∙_}
+use mathlib.Core.Bool.{true, false, cond, not, _&&_, _||_}
+use mathlib.Core.List.{List, [], _∷_}
+use mathlib.Core.Option.{Option·getD}
+use native.Mathlib.Nat.{zero-add}
+use native.Mathlib.Omega.{arith}
+use borrow.Author.Tests.{eqb-true, eqb-false, eq-eqb}
+use lib.Dec.{eqb, ltb, leb}
+use lib.ListN.{length}
+use Rattle.laws.specs.Checks.{_⇒_, first, between, isSome}
+use Rattle.laws.specs.Lists.{all, same, cut, part}
+use Rattle.laws.proofs.Choice.{by-test, and-left, and-right, same-test, between-true, between-least, between-most, between-is, between-checks}
+use Rattle.laws.proofs.Lists.{all-alike, same-is}
+use Rattle.laws.proofs.Cutting.{count}
+use Rattle.words.specs.Digits.{worth}
+use Rattle.words.specs.declared.Fields.{Fields}
+use Rattle.meaning.specs.Line.{is, isNumber, within, isAddress}
+use Rattle.meaning.specs.Log.{Deed}
+use Rattle.meaning.specs.Table as table
+use Rattle.meaning.specs.Table.{Judged, Row, error, no}
+use Rattle.text.specs.Field.{afterComma, fieldIs}
+use Rattle.code.specs.Read.{Reading, pairs, fault}
+use Rattle.request.specs.declared.name.Name.{Name}
+use Rattle.request.specs.declared.name.Name.the-variants as name
+use Rattle.request.specs.declared.mode.Mode.{Mode}
+use Rattle.request.specs.declared.mode.Mode.the-variants.{Ir, Sensor, IrBlaster}
+use Rattle.request.specs.declared.Request.{Request}
+use Rattle.request.specs.declared.Request.the-variants as request
+use Rattle.request.specs.Name.{getdevices, getversion, nameOf, nameAt}
+use Rattle.request.specs.Address.{hasModule, addressFault}
+use Rattle.request.specs.Mode.{modeWord, mayHave}
+use Rattle.request.specs.Fields.{capped, sentAt}
+use Rattle.request.specs.Request.{isPrintable, alone, setIrAt, setStateAt, getStateAt, atAddress, addressed, readRequest}
+use Rattle.reads.specs.Readings.{readingOf}
+use Rattle.reads.proofs.Meant.{sensorAt, meantPairs, meantCode, meant}
+use Rattle.reads.proofs.Cursor.{word-is, isMode, modeIn, word-back, counts, counts-few, counts-within, Cursor, start, field-is, next, over, within-is, address-is-at, mode-is}
+use Rattle.reads.proofs.Bytewise.{code-bytewise}
+
+-- ---- the module in the table, as a range
+one-module : (k m : ℕ) → eqb m k ≡ between k k m
+one-module k m =
+    same-test (eqb m k) (between k k m)
+    (λ e. between-true k k m (omega (arith, eqb-true m k e)) (omega (arith, eqb-true m k e)))
+    (λ e. eq-eqb m k (omega (arith, between-least k k m e, between-most k k m e)))
+
+two-modules : (m : ℕ) → eqb m 1 || eqb m 2 ≡ between 1 2 m
+two-modules m =
+    by-test (eqb m 1)
+    (λ e. rw e (sym (between-true 1 2 m (omega (arith, eqb-true m 1 e)) (omega (arith, eqb-true m 1 e)))))
+    (λ e. rw e
+    (same-test (eqb m 2) (between 1 2 m)
+    (λ f. between-true 1 2 m (omega (arith, eqb-true m 2 f)) (omega (arith, eqb-true m 2 f)))
+    (λ f. eq-eqb m 2 (omega (arith, between-least 1 2 m f, between-most 1 2 m f, eqb-false m 1 e)))))
+
+-- ---- a number in a range
+module _ (least most : ℕ) (f : List ℕ) (e : within least most f ≡ true) where
+  within-few : leb (length f) 6 ≡ true
+  unfolding within
+  within-few = and-right (isNumber f) (leb (length f) 6) (and-left (isNumber f && leb (length f) 6) (between least most (worth 0 f)) e)
+
+  within-range : between least most (worth 0 f) ≡ true
+  unfolding within
+  within-range = and-right (isNumber f && leb (length f) 6) (between least most (worth 0 f)) e
+
+-- the two numbers of an address
+module _ (f : List ℕ) (e : isAddress f ≡ true) where
+  module-number : isNumber (part 58 0 f) ≡ true
+  unfolding isAddress
+  module-number =
+      let two = eqb (length (cut 58 f)) 2 in
+      and-right two (isNumber (part 58 0 f)) (and-left (two && isNumber (part 58 0 f)) (isNumber (part 58 1 f)) e)
+
+  port-number : isNumber (part 58 1 f) ≡ true
+  unfolding isAddress
+  port-number = and-right (eqb (length (cut 58 f)) 2 && isNumber (part 58 0 f)) (isNumber (part 58 1 f)) e
+
+module _ (log : List Deed) (connection : ℕ) (s : List ℕ) where
+  abbrev field : ℕ → List ℕ
+  field k = part 44 k s
+
+  abbrev m : ℕ
+  m = worth 0 (part 58 0 (field 1))
+
+  abbrev p : ℕ
+  p = worth 0 (part 58 1 (field 1))
+
+  -- what a row gives, and what a request is made of
+  abbrev gives : Row → Judged
+  gives r = first (r .checks) (r .otherwise)
+
+  abbrev makes : Request → Judged
+  makes r = meant log connection s r
+
+  -- 017 "anything after a complete request"
+  alone-row : {k at : ℕ} → Cursor s k at → (r : Request)
+      → makes (alone s (at + length (field k)) r) ≡ cond (ltb (suc k) (length (cut 44 s))) (no 17) (makes r)
+  unfolding alone
+  alone-row {k} {at} c r = rw (over c) (by-test (ltb (suc k) (length (cut 44 s))) (λ e. rw e) (λ e. rw e))
+
+  -- 017 for the address, 002, 003, and what comes behind
+  address-row : (n : Name) (least most : ℕ) {rest : Judged} → nameOf n ≡ field 0
+      → ((k : ℕ) → hasModule n k ≡ between least most k) → most < 1000000
+      → ((at : ℕ) → Cursor s 1 at → between least most m ≡ true → makes (atAddress s n m p (at + length (field 1))) ≡ rest)
+      → first (table.address log connection s least most []) rest ≡ makes (addressed s n)
+  unfolding addressed addressFault
+  address-row n least most {rest} name range small go =
+      let at = afterComma s (length (nameOf n)) in
+      let c : Cursor s 1 at = rw (name, ← zero-add (length (field 0))) (next (start s)) in
+      rw (address-is-at c)
+      (by-test (isAddress (field 1)) (λ a.
+      rw (
+        a,
+        range (counts (part 58 0 (field 1))),
+        ← counts-within least most (part 58 0 (field 1)) small (module-number (field 1) a),
+        between-checks 1 3 (counts (part 58 1 (field 1))),
+        ← counts-within 1 3 (part 58 1 (field 1)) (omega arith) (port-number (field 1) a),
+      )
+      (by-test (within least most (part 58 0 (field 1))) (λ h. rw h
+      (by-test (within 1 3 (part 58 1 (field 1)))
+      (λ u. rw (u, counts-few (part 58 0 (field 1)) (within-few least most (part 58 0 (field 1)) h), counts-few (part 58 1 (field 1)) (within-few 1 3 (part 58 1 (field 1)) u))
+      (sym (go at c (within-range least most (part 58 0 (field 1)) h))))
+      (λ u. rw u)))
+      (λ h. rw h)))
+      (λ a. rw a))
+
+  -- a request that takes one module only
+  one-row : (n : Name) (k : ℕ) {rest : Judged} → nameOf n ≡ field 0
+      → ((j : ℕ) → hasModule n j ≡ eqb j k) → k < 1000000
+      → ((at : ℕ) → Cursor s 1 at → m ≡ k → makes (atAddress s n m p (at + length (field 1))) ≡ rest)
+      → first (table.address log connection s k k []) rest ≡ makes (addressed s n)
+  one-row n k e has small go =
+      address-row n k k e (λ j. has j ∙ one-module k j) small
+      (λ at c h. go at c (omega (arith, between-least k k m h, between-most k k m h)))
+
+  get-IR-row : nameOf name.GetIr ≡ field 0 → gives (table.get-IR log connection s) ≡ makes (addressed s name.GetIr)
+  unfolding table.get-IR
+  get-IR-row e = one-row name.GetIr 1 e (λ j. refl) (omega arith) (λ at c h. alone-row c (request.GetIr p))
+
+  stopir-row : nameOf name.StopIr ≡ field 0 → gives (table.stopir log connection s) ≡ makes (addressed s name.StopIr)
+  unfolding table.stopir
+  stopir-row e = one-row name.StopIr 1 e (λ j. refl) (omega arith) (λ at c h. rw h (alone-row c (request.StopIr p)))
+
+  getstate-row : nameOf name.GetState ≡ field 0 → gives (table.getstate log connection s) ≡ makes (addressed s name.GetState)
+  unfolding table.getstate getStateAt
+  getstate-row e =
+      address-row name.GetState 1 2 e two-modules (omega arith)
+      (λ at c h. by-test (eqb m 1)
+      (λ f. rw (eqb-true m 1 f) (alone-row c (request.GetContact p)))
+      (λ f. rw (f, two f h) (alone-row c (request.GetRelay p))))
+    where
+      two : eqb m 1 ≡ false → between 1 2 m ≡ true → eqb m 2 ≡ true
+      two f h = eq-eqb m 2 (omega (arith, between-least 1 2 m h, between-most 1 2 m h, eqb-false m 1 f))
+
+  setstate-row : nameOf name.SetState ≡ field 0 → gives (table.setstate log connection s) ≡ makes (addressed s name.SetState)
+  unfolding table.setstate setStateAt
+  setstate-row e =
+      one-row name.SetState 2 e (λ j. refl) (omega arith)
+      (λ at c h. rw (h, within-is (next c) 0 1 (omega arith))
+      (by-test (within 0 1 (field 2))
+      (λ f. rw f (alone-row (next c) (request.SetState p (worth 0 (field 2)))))
+      (λ f. rw f)))
+
+  may-have : isMode (field 2) ≡ true → mayHave p (modeIn (field 2)) ≡ not (is "IR_BLASTER" (field 2) && not (eqb p 3))
+  may-have e = go (modeIn (field 2)) ∙ ap (λ (w : List ℕ). not (is "IR_BLASTER" w && not (eqb p 3))) (word-back (field 2) e)
+    where
+      go : (mode : Mode) → mayHave p mode ≡ not (is "IR_BLASTER" (modeWord mode) && not (eqb p 3))
+      go Ir = refl
+      go Sensor = refl
+      go IrBlaster = by-test (eqb p 3) (λ f. rw f) (λ f. rw f)
+
+  set-IR-row : nameOf name.SetIr ≡ field 0 → gives (table.set-IR log connection s) ≡ makes (addressed s name.SetIr)
+  unfolding table.set-IR setIrAt isMode
+  set-IR-row e =
+      one-row name.SetIr 1 e (λ j. refl) (omega arith)
+      (λ at c h. rw (h, mode-is (next c))
+      (by-test (isMode (field 2))
+      (λ f. rw (f, may-have f)
+      (by-test (is "IR_BLASTER" (field 2) && not (eqb p 3))
+      (λ g. rw g)
+      (λ g. rw g (alone-row (next c) (request.SetIr p (modeIn (field 2))) ∙ rw (word-back (field 2) f)))))
+      (λ f. rw f)))
+
+  -- a code that was read, as checks
+  code-row : (f : Fields) (code : Reading)
+      → meantCode log connection p f code
+      ≡ cond (isSome (readingOf code .fault)) (error (Option·getD (readingOf code .fault) 0) 1 p) (meantPairs log connection p f (readingOf code .pairs))
+  code-row f (pairs ps) = refl
+  code-row f (fault n) = refl
+
+  sendir-row : nameOf name.SendIr ≡ field 0 → gives (table.sendir log connection s) ≡ makes (addressed s name.SendIr)
+  unfolding table.sendir sentAt capped
+  sendir-row e = one-row name.SendIr 1 e (λ j. refl) (omega arith) (λ at c h. rw (h, within-is (next c) 0 65535 (omega arith))
+      (by-test (sensorAt p log) (λ z. rw z) λ z. rw z
+      (by-test (within 0 65535 (field 2)) (λ i. rw (i, within-is (next (next c)) 15000 500000 (omega arith))
+      (by-test (within 15000 500000 (field 3)) (λ q. rw (q, within-is (next (next (next c))) 1 999999 (omega arith))
+      (by-test (within 1 999999 (field 4)) (λ r. rw (r, within-is (next (next (next (next c)))) 1 383 (omega arith))
+      (by-test (within 1 383 (field 5)) (λ o. rw o
+      (by-test (eqb (worth 0 (field 5) % 2) 0) (λ v. rw v)
+      λ v. rw (v, ← next (next (next (next (next c)))) .stands, ← code-bytewise, code-row)))
+      (λ o. rw o))) (λ r. rw r))) (λ q. rw q))) (λ i. rw i))))
+
+  -- ---- the whole line
+  name-is : (w : List ℕ) → count 44 w ≡ 0 → fieldIs w s ≡ same w (field 0)
+  name-is w n = word-is w s n ∙ ap (same w) (field-is (start s))
+
+  first-row : (r : Request) (w : List ℕ) → w ≡ field 0 → cond (ltb 1 (length (cut 44 s))) (no 17) (makes r) ≡ makes (alone s (length w) r)
+  first-row r w e =
+      sym (alone-row (start s) r) ∙ ap (λ (n : ℕ). makes (alone s n r)) (zero-add (length (field 0)) ∙ ap length (sym e))
+
+  getdevices-row : getdevices ≡ field 0 → gives (table.getdevices log connection s) ≡ makes (alone s (length getdevices) request.GetDevices)
+  unfolding table.getdevices
+  getdevices-row e = first-row request.GetDevices getdevices e
+
+  getversion-row : getversion ≡ field 0 → gives (table.getversion log connection s) ≡ makes (alone s (length getversion) request.GetVersion)
+  unfolding table.getversion
+  getversion-row e = first-row request.GetVersion getversion e
+
+  -- the table's judgement of a line is what is made of the request that it is read as
+  pub line-is : first
+      ((ltb 4096 (length s) ⇒ no 15)
+      ∷ (not (all (between 32 126) s) ⇒ no 1)
+      ∷ table.request log connection s .checks) (table.request log connection s .otherwise)
+      ≡ meant log connection s (readRequest s)
+  unfolding table.request readRequest nameAt
+  line-is =
+      let f = field 0 in
+      rw (
+        all-alike isPrintable (between 32 126) (between-is 32 126) s,
+        name-is getdevices refl,
+        name-is getversion refl,
+        name-is (nameOf name.SetIr) refl,
+        name-is (nameOf name.GetIr) refl,
+        name-is (nameOf name.SetState) refl,
+        name-is (nameOf name.GetState) refl,
+        name-is (nameOf name.SendIr) refl,
+        name-is (nameOf name.StopIr) refl,
+      )
+      (by-test (ltb 4096 (length s)) (λ e. rw e) λ e. rw e
+      (by-test (all (between 32 126) s) (λ a. rw a
+      (by-test (same getdevices f) (λ t. rw t (getdevices-row (same-is getdevices f t))) λ t. rw t
+      (by-test (same getversion f) (λ t. rw t (getversion-row (same-is getversion f t))) λ t. rw t
+      (by-test (same (nameOf name.SetIr) f) (λ t. rw t (set-IR-row (same-is (nameOf name.SetIr) f t))) λ t. rw t
+      (by-test (same (nameOf name.GetIr) f) (λ t. rw t (get-IR-row (same-is (nameOf name.GetIr) f t))) λ t. rw t
+      (by-test (same (nameOf name.SetState) f) (λ t. rw t (setstate-row (same-is (nameOf name.SetState) f t))) λ t. rw t
+      (by-test (same (nameOf name.GetState) f) (λ t. rw t (getstate-row (same-is (nameOf name.GetState) f t))) λ t. rw t
+      (by-test (same (nameOf name.SendIr) f) (λ t. rw t (sendir-row (same-is (nameOf name.SendIr) f t))) λ t. rw t
+      (by-test (same (nameOf name.StopIr) f) (λ t. rw t (stopir-row (same-is (nameOf name.StopIr) f t))) (λ t. rw t))))))))))
+      (λ a. rw a)))

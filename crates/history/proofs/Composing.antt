@@ -1,10 +1,12 @@
 -- Waiting composes, from a fresh hub and after any calls; a wait of 0 changes nothing.
 use Prim.Native.Nat.{ℕ, _+_, _≤_}
 use mathlib.Core.Path.{_≡_, refl, sym, ap, ap₂, _∙_, subst}
+use mathlib.Core.Bool.{true}
 use mathlib.Core.List.{List, [], _∷_, _++_, map}
 use mathlib.Core.Option.{Option, none, some}
 use native.Mathlib.Omega.{arith}
 use native.Mathlib.Nat.{add-assoc, add-zero}
+use lib.Dec.{ltb}
 use lib.ListN.{length}
 use borrow.Author.Tests.{le-ltb}
 use Rattle.laws.proofs.Choice.{by-test}
@@ -17,6 +19,7 @@ use Rattle.hub.specs.Record.{freshHub}
 use Rattle.hub.specs.Wait.{waitedStep}
 use Rattle.history.specs.Run.{Outcome, called, run}
 use Rattle.history.specs.Waiting.{movedBy, Reached, reached, at, afterwards, Composes, ChangesNothing}
+use Rattle.reads.proofs.Cursor.{modeIn}
 use Rattle.history.proofs.Known.{Known, onAir, dueOf}
 use Rattle.history.proofs.Shown.{FitFor}
 use Rattle.history.proofs.Fits.{fit-after}
@@ -24,7 +27,7 @@ use Rattle.history.proofs.Agrees.{hubOf}
 use Rattle.history.proofs.Joining.{completions}
 use Rattle.history.proofs.Calling.{wait-passes, wait-completes}
 use Rattle.history.proofs.Waits.{completions-add}
-use Rattle.history.proofs.View.{view, modeIn}
+use Rattle.history.proofs.View.{view}
 use Rattle.history.proofs.Logged.{logged-fit}
 use Rattle.history.proofs.Following.{hubAt, Keeps, follows}
 
@@ -67,6 +70,12 @@ module _ (t : ℕ) (K : ℕ → Known) (R : ℕ → ℕ) (fit : (p : ℕ) → Fi
   wait-gives : (n : ℕ) → n ≤ 1000000000 → at present (waiting n) .completions ≡ completions t K n
   unfolding waitedStep
   wait-gives n low = rw (le-ltb 1000000000 n low) (wait-completes t K R fit n)
+
+-- a wait that is refused completes nothing
+pub refused-completes-nothing : (hub : Hub) (store : List ℕ) (n : ℕ) → ltb 1000000000 n ≡ true
+    → called hub store (waiting n) .completions ≡ []
+unfolding waitedStep
+refused-completes-nothing hub store n e = rw e
 
 -- nothing is complete at once
 due-at-once : (t port : ℕ) (x : Known) (o : Option Transmission) → dueOf t 0 port x (onAir t o) ≡ []

@@ -25,11 +25,13 @@ use Rattle.hub.specs.Calls.{readingStep, closedStep, carriersOf}
 use Rattle.hub.specs.Wait.{waitedStep}
 use Rattle.history.specs.Heard.{answerOut}
 use Rattle.history.specs.Run.{Outcome, plain, called, run}
+use Rattle.reads.proofs.Rows.{line-is}
+use Rattle.reads.proofs.Cursor.{modeIn}
 use Rattle.history.proofs.Known.{Known, error}
 use Rattle.history.proofs.Agrees.{hubOf, Stored, Means, unmoved, means-alike}
 use Rattle.history.proofs.Asking.{asked-means}
 use Rattle.history.proofs.Calling.{wait-passes, wait-completes, stored-later, closed-means, reading-means, carriers-shown}
-use Rattle.history.proofs.View.{modeIn, view, worded, line-is, request-step, now-step, relay-step, request-said, reading-step, reading-said, closing-step, completions-are, carriers-are}
+use Rattle.history.proofs.View.{view, worded, request-step, now-step, relay-step, request-said, reading-step, reading-said, closing-step, completions-are, carriers-are}
 use Rattle.history.proofs.Logged.{logged-fit}
 
 -- the hub that shows a log

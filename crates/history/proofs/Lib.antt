@@ -6,12 +6,11 @@ pub mod Asking
 pub mod Joining
 pub mod Calling
 pub mod Waits
-pub mod Meant
 pub mod View
 pub mod Logged
 pub mod Following
 pub mod Composing
 pub mod Sound
-pub mod Notions
+pub mod Moments
 pub mod Silent
-pub mod Bounds
+pub mod Renewing

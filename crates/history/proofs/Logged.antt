@@ -12,11 +12,12 @@ use Rattle.meaning.specs.Log.{Deed, now, modeOf, lastOf}
 use Rattle.meaning.specs.Table.{Judged, deedsOf, Call, line, overlong, reading, closing, waiting, judge, logOf}
 use Rattle.request.specs.Request.{readRequest}
 use Rattle.request.proofs.Accepted.{within}
+use Rattle.reads.proofs.Rows.{line-is}
 use Rattle.history.proofs.Known.{Known}
 use Rattle.history.proofs.Shown.{FitFor}
 use Rattle.history.proofs.Fits.{made-fit, fit-after}
-use Rattle.history.proofs.Meant.{meant}
-use Rattle.history.proofs.View.{view, Worded, worded, line-is, request-step, now-step}
+use Rattle.reads.proofs.Meant.{meant}
+use Rattle.history.proofs.View.{view, Worded, worded, request-step, now-step}
 
 module _ (log : List Deed) (words : Worded log) (p : ℕ) (fit : FitFor (now log) (lastOf p log)) where
   abbrev FitBy : Judged → Type 0

@@ -16,13 +16,14 @@ use Rattle.meaning.specs.Table.{Judged, deedsOf, Call, line, overlong, reading,
 use Rattle.request.specs.declared.Request.{Request}
 use Rattle.request.specs.declared.Request.the-variants as request
 use Rattle.request.specs.Request.{readRequest}
+use Rattle.reads.proofs.Rows.{line-is}
 use Rattle.waveform.proofs.Paced.{complete-later}
 use Rattle.connector.specs.Change.{owns, sameMode}
 use Rattle.connector.specs.Send.{transmitsNot}
 use Rattle.history.proofs.Known.{Known, Sendir, wrong, command, onAir, isSome, transmits, sendirOf, sameCommand, commanded, sentTo, withMode, concerns, asked}
 use Rattle.history.proofs.Shown.{FitFor}
-use Rattle.history.proofs.Meant.{meant}
-use Rattle.history.proofs.View.{view, worded, line-is, request-step, now-step}
+use Rattle.reads.proofs.Meant.{meant}
+use Rattle.history.proofs.View.{view, worded, request-step, now-step}
 use Rattle.history.proofs.Logged.{logged-fit}
 
 abbrev Silent : ℕ → Known → Type 0

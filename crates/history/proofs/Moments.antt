@@ -1,4 +1,4 @@
--- What the meaning's own notions say of every transmission in the log of a history.
+-- The moments of every transmission in the log of a history: its completion, and the copies begun.
 use Prim.Native.Nat.{ℕ, suc, _-_, _≤_, _<_}
 use mathlib.Core.Path.{_≡_, subst}
 use mathlib.Core.Bool.{true, false}

@@ -19,6 +19,7 @@ use Rattle.request.specs.declared.Request.the-variants as request
 use Rattle.request.specs.Request.{readRequest}
 use Rattle.pace.specs.Pace.{SoundPace}
 use Rattle.store.proofs.Kept.{alike-refl}
+use Rattle.reads.proofs.Rows.{line-is}
 use Rattle.waveform.proofs.Paced.{Fit, paceAt, renewed-runs}
 use Rattle.waveform.proofs.Meaning.{pace-sound}
 use Rattle.connector.specs.Change.{sameFields}
@@ -28,8 +29,8 @@ use Rattle.history.specs.Copies.{CopiesAt}
 use Rattle.history.proofs.Known as known
 use Rattle.history.proofs.Known.{Known, sameCommand}
 use Rattle.history.proofs.Shown.{FitFor, fit-on-air, runs-on-air}
-use Rattle.history.proofs.Meant.{meant}
-use Rattle.history.proofs.View.{view, worded, line-is, request-step, now-step, air-is, owner-is}
+use Rattle.reads.proofs.Meant.{meant}
+use Rattle.history.proofs.View.{view, worded, request-step, now-step, air-is, owner-is}
 use Rattle.history.proofs.Logged.{logged-fit}
 use Rattle.history.proofs.Silent.{sensor-silent}
 

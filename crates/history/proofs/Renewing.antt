@@ -1,12 +1,12 @@
 -- A transmission renewed any number of times stays exact, and the hub's record of it within its bounds.
-use Prim.Native.Nat.{ℕ, _+_, _≤_}
+use Prim.Native.Nat.{ℕ, _+_}
 use mathlib.Core.Path.{_≡_, refl, sym, ap, _∙_, subst}
 use mathlib.Core.Bool.{true, false}
 use mathlib.Core.List.{List, [], _∷_, _++_}
 use mathlib.Core.Option.{Option, none, some, Option·map}
 use native.Mathlib.Omega.{arith}
 use lib.Dec.{ltb, eqb}
-use borrow.Author.Tests.{eq-eqb, lt-ltb}
+use borrow.Author.Tests.{eq-eqb, eqb-true, lt-ltb}
 use Rattle.laws.proofs.Choice.{by-test, cond-case, and-true}
 use Rattle.words.specs.declared.Fields.{Fields}
 use Rattle.meaning.specs.Time.{Transmission, countsOf, begun, done}
@@ -24,8 +24,7 @@ use Rattle.waveform.proofs.Paced.{Fit, paceAt, renewed-runs}
 use Rattle.waveform.proofs.Meaning.{pace-sound}
 use Rattle.connector.specs.Change.{sameFields}
 use Rattle.connector.specs.Send.{transmitsNot}
-use Rattle.history.specs.Copies as copies
-use Rattle.history.specs.Copies.{CopiesAt}
+use Rattle.history.specs.Copies.{spares, CopiesBy, at-start, at-renewal}
 use Rattle.history.proofs.Known as known
 use Rattle.history.proofs.Known.{Known, sameCommand}
 use Rattle.history.proofs.Shown.{FitFor, fit-on-air, runs-on-air}
@@ -48,39 +47,46 @@ same-refl s = and-true _ _ (fields-refl (s .fields)) (alike-refl (countsOf (s .p
 
 -- ---- its copies
 
-abbrev Counted : ℕ → Option Transmission → Type 0
-Counted t none = Unit
-Counted t (some s) = (s .start ≤ t) × CopiesAt t s
+abbrev Counted : List Deed → ℕ → Option Transmission → Type 0
+Counted log p none = Unit
+Counted log p (some s) = CopiesBy log p s
 
-counted-later : (t n : ℕ) (o : Option Transmission) → Counted t o → Counted (t + n) o
-counted-later t n none c = tt
-counted-later t n (some s) c = (omega (arith, c .0), go (c .1))
-  where
-    go : CopiesAt t s → CopiesAt (t + n) s
-    go (copies.started e) = copies.started e
-    go (copies.renewed u since past e) = copies.renewed u since (omega arith) e
+-- a deed more that spares it
+spared : (log : List Deed) (p : ℕ) (d : Deed) → spares p d ≡ true → (o : Option Transmission) → Counted log p o → Counted (d ∷ log) p o
+spared log p d e none c = tt
+spared log p d e (some s) (at-start since earlier connection splits quiet n) =
+    at-start (d ∷ since) earlier connection (ap (λ (l : List Deed). d ∷ l) splits) (and-true _ _ e quiet) n
+spared log p d e (some s) (at-renewal since earlier splits quiet n) =
+    at-renewal (d ∷ since) earlier (ap (λ (l : List Deed). d ∷ l) splits) (and-true _ _ e quiet) n
 
-counted-renewed : (t : ℕ) (o : Option Transmission) → Counted t o → Counted t (Option·map (λ s. time.renewed s t) o)
+counted-renewed : (log : List Deed) (p q : ℕ) → q ≡ p → (o : Option Transmission)
+    → Counted (event (renewed q) ∷ log) p (Option·map (λ s. time.renewed s (now log)) o)
 unfolding time.renewed begun done
-counted-renewed t none c = tt
-counted-renewed t (some s) c = (c .0, copies.renewed t (c .0) (omega arith) refl)
+counted-renewed log p q e none = tt
+counted-renewed log p q e (some s) = at-renewal [] log (ap (λ (n : ℕ). event (renewed n) ∷ log) e) refl refl
 
-counted : (log : List Deed) (p : ℕ) → Counted (now log) (lastOf p log)
+counted : (log : List Deed) (p : ℕ) → Counted log p (lastOf p log)
 unfolding time.started
 counted [] p = tt
-counted (passed n ∷ log) p = counted-later (now log) n (lastOf p log) (counted log p)
-counted (setting q x ∷ log) p = counted log p
-counted (switched q state ∷ log) p = counted log p
+counted (passed n ∷ log) p = spared log p (passed n) refl (lastOf p log) (counted log p)
+counted (setting q x ∷ log) p = spared log p (setting q x) refl (lastOf p log) (counted log p)
+counted (switched q state ∷ log) p = spared log p (switched q state) refl (lastOf p log) (counted log p)
 counted (event (started q connection f ps) ∷ log) p =
-    cond-case (Counted (now log)) (eqb q p) _ _ (λ _. (omega arith, copies.started refl)) (λ _. counted log p)
+    cond-case (Counted (event (started q connection f ps) ∷ log) p) (eqb q p) _ _
+    (λ e. at-start [] log connection (ap (λ (n : ℕ). event (started n connection f ps) ∷ log) (eqb-true q p e)) refl refl)
+    (λ e. spared log p (event (started q connection f ps)) (rw e) (lastOf p log) (counted log p))
 counted (event (renewed q) ∷ log) p =
-    cond-case (Counted (now log)) (eqb q p) _ _ (λ _. counted-renewed (now log) (lastOf p log) (counted log p)) (λ _. counted log p)
-counted (event (halted q) ∷ log) p = cond-case (Counted (now log)) (eqb q p) _ _ (λ _. tt) (λ _. counted log p)
-counted (event (left connection) ∷ log) p = counted log p
+    cond-case (Counted (event (renewed q) ∷ log) p) (eqb q p) _ _
+    (λ e. counted-renewed log p q (eqb-true q p e) (lastOf p log))
+    (λ e. spared log p (event (renewed q)) (rw e) (lastOf p log) (counted log p))
+counted (event (halted q) ∷ log) p =
+    cond-case (Counted (event (halted q) ∷ log) p) (eqb q p) _ _
+    (λ e. tt) (λ e. spared log p (event (halted q)) (rw e) (lastOf p log) (counted log p))
+counted (event (left connection) ∷ log) p = spared log p (event (left connection)) refl (lastOf p log) (counted log p)
 
 -- by any log, however often a transmission was renewed: its copies are its repeat, or those begun at its last renewal plus repeat
-pub renewed-often : (log : List Deed) (p : ℕ) (s : Transmission) → lastOf p log ≡ some s → CopiesAt (now log) s
-renewed-often log p s e = subst (Counted (now log)) e (counted log p) .1
+pub renewed-often : (log : List Deed) (p : ℕ) (s : Transmission) → lastOf p log ≡ some s → CopiesBy log p s
+renewed-often log p s e = subst (Counted log p) e (counted log p)
 
 -- ---- after a history
 

@@ -119,7 +119,13 @@ module _ (freq : ℕ) where
         spelled =
             let v = worth 0 (c ∷ run w) in
             by-test (isCount freq (c ∷ run w))
-            (λ f. rw (f, ← lettered-more ps (pair n v), again (ps ++ (pair n v ∷ [])) (at + suc (length (run w))) (omega (arith, length-append ps (pair n v ∷ []))), behind-run at c w e))
+            (λ f.
+            rw (
+              f,
+              ← lettered-more ps (pair n v),
+              again (ps ++ (pair n v ∷ [])) (at + suc (length (run w))) (omega (arith, length-append ps (pair n v ∷ []))),
+              behind-run at c w e,
+            ))
             (λ f. rw f)
 
     on-is : (at b : ℕ) (x : List ℕ) → drop at s ≡ b ∷ x → isDigit b ≡ true → then (spelledAt freq (length ps) s at) ≡ reads freq ps (on (b ∷ [])) x

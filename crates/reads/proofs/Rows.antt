@@ -24,6 +24,8 @@ use Rattle.text.specs.Field.{afterComma, fieldIs}
 use Rattle.code.specs.Read.{Reading, pairs, fault}
 use Rattle.request.specs.declared.name.Name.{Name}
 use Rattle.request.specs.declared.name.Name.the-variants as name
+use Rattle.request.specs.declared.name.NameRead.{NameRead}
+use Rattle.request.specs.declared.name.NameRead.the-variants.{Unknown, Known}
 use Rattle.request.specs.declared.mode.Mode.{Mode}
 use Rattle.request.specs.declared.mode.Mode.the-variants.{Ir, Sensor, IrBlaster}
 use Rattle.request.specs.declared.Request.{Request}
@@ -32,7 +34,7 @@ use Rattle.request.specs.Name.{getdevices, getversion, nameOf, nameAt}
 use Rattle.request.specs.Address.{hasModule, addressFault}
 use Rattle.request.specs.Mode.{modeWord, mayHave}
 use Rattle.request.specs.Fields.{capped, sentAt}
-use Rattle.request.specs.Request.{isPrintable, alone, setIrAt, setStateAt, getStateAt, atAddress, addressed, readRequest}
+use Rattle.request.specs.Request.{isPrintable, alone, setIrAt, setStateAt, getStateAt, atAddress, addressed, named, readRequest}
 use Rattle.reads.specs.Readings.{readingOf}
 use Rattle.reads.proofs.Meant.{sensorAt, meantPairs, meantCode, meant}
 use Rattle.reads.proofs.Cursor.{word-is, isMode, modeIn, word-back, counts, counts-few, counts-within, Cursor, start, field-is, next, over, within-is, address-is-at, mode-is}
@@ -86,12 +88,13 @@ module _ (log : List Deed) (connection : ℕ) (s : List ℕ) where
   abbrev p : ℕ
   p = worth 0 (part 58 1 (field 1))
 
-  -- what a row gives, and what a request is made of
-  abbrev gives : Row → Judged
-  gives r = first (r .checks) (r .otherwise)
-
+  -- what is made of a request
   abbrev makes : Request → Judged
   makes r = meant log connection s r
+
+  -- a row gives what is made of a request
+  record Agrees (r : Row) (asked : Request) : Type 0 where
+    is : first (r .checks) (r .otherwise) ≡ makes asked
 
   -- 017 "anything after a complete request"
   alone-row : {k at : ℕ} → Cursor s k at → (r : Request)
@@ -134,33 +137,39 @@ module _ (log : List Deed) (connection : ℕ) (s : List ℕ) where
       address-row n k k e (λ j. has j ∙ one-module k j) small
       (λ at c h. go at c (omega (arith, between-least k k m h, between-most k k m h)))
 
-  get-IR-row : nameOf name.GetIr ≡ field 0 → gives (table.get-IR log connection s) ≡ makes (addressed s name.GetIr)
+  get-IR-row : nameOf name.GetIr ≡ field 0 → Agrees (table.get-IR log connection s) (addressed s name.GetIr)
   unfolding table.get-IR
-  get-IR-row e = one-row name.GetIr 1 e (λ j. refl) (omega arith) (λ at c h. alone-row c (request.GetIr p))
+  get-IR-row e = record { is = one-row name.GetIr 1 e (λ j. refl) (omega arith) (λ at c h. alone-row c (request.GetIr p)) }
 
-  stopir-row : nameOf name.StopIr ≡ field 0 → gives (table.stopir log connection s) ≡ makes (addressed s name.StopIr)
+  stopir-row : nameOf name.StopIr ≡ field 0 → Agrees (table.stopir log connection s) (addressed s name.StopIr)
   unfolding table.stopir
-  stopir-row e = one-row name.StopIr 1 e (λ j. refl) (omega arith) (λ at c h. rw h (alone-row c (request.StopIr p)))
+  stopir-row e = record { is = one-row name.StopIr 1 e (λ j. refl) (omega arith) (λ at c h. rw h (alone-row c (request.StopIr p))) }
 
-  getstate-row : nameOf name.GetState ≡ field 0 → gives (table.getstate log connection s) ≡ makes (addressed s name.GetState)
+  getstate-row : nameOf name.GetState ≡ field 0 → Agrees (table.getstate log connection s) (addressed s name.GetState)
   unfolding table.getstate getStateAt
   getstate-row e =
-      address-row name.GetState 1 2 e two-modules (omega arith)
-      (λ at c h. by-test (eqb m 1)
-      (λ f. rw (eqb-true m 1 f) (alone-row c (request.GetContact p)))
-      (λ f. rw (f, two f h) (alone-row c (request.GetRelay p))))
+      record {
+        is =
+            address-row name.GetState 1 2 e two-modules (omega arith)
+            (λ at c h. by-test (eqb m 1)
+            (λ f. rw (eqb-true m 1 f) (alone-row c (request.GetContact p)))
+            (λ f. rw (f, two f h) (alone-row c (request.GetRelay p))));
+      }
     where
       two : eqb m 1 ≡ false → between 1 2 m ≡ true → eqb m 2 ≡ true
       two f h = eq-eqb m 2 (omega (arith, between-least 1 2 m h, between-most 1 2 m h, eqb-false m 1 f))
 
-  setstate-row : nameOf name.SetState ≡ field 0 → gives (table.setstate log connection s) ≡ makes (addressed s name.SetState)
+  setstate-row : nameOf name.SetState ≡ field 0 → Agrees (table.setstate log connection s) (addressed s name.SetState)
   unfolding table.setstate setStateAt
   setstate-row e =
-      one-row name.SetState 2 e (λ j. refl) (omega arith)
-      (λ at c h. rw (h, within-is (next c) 0 1 (omega arith))
-      (by-test (within 0 1 (field 2))
-      (λ f. rw f (alone-row (next c) (request.SetState p (worth 0 (field 2)))))
-      (λ f. rw f)))
+      record {
+        is =
+            one-row name.SetState 2 e (λ j. refl) (omega arith)
+            (λ at c h. rw (h, within-is (next c) 0 1 (omega arith))
+            (by-test (within 0 1 (field 2))
+            (λ f. rw f (alone-row (next c) (request.SetState p (worth 0 (field 2)))))
+            (λ f. rw f)));
+      }
 
   may-have : isMode (field 2) ≡ true → mayHave p (modeIn (field 2)) ≡ not (is "IR_BLASTER" (field 2) && not (eqb p 3))
   may-have e = go (modeIn (field 2)) ∙ ap (λ (w : List ℕ). not (is "IR_BLASTER" w && not (eqb p 3))) (word-back (field 2) e)
@@ -170,17 +179,20 @@ module _ (log : List Deed) (connection : ℕ) (s : List ℕ) where
       go Sensor = refl
       go IrBlaster = by-test (eqb p 3) (λ f. rw f) (λ f. rw f)
 
-  set-IR-row : nameOf name.SetIr ≡ field 0 → gives (table.set-IR log connection s) ≡ makes (addressed s name.SetIr)
+  set-IR-row : nameOf name.SetIr ≡ field 0 → Agrees (table.set-IR log connection s) (addressed s name.SetIr)
   unfolding table.set-IR setIrAt isMode
   set-IR-row e =
-      one-row name.SetIr 1 e (λ j. refl) (omega arith)
-      (λ at c h. rw (h, mode-is (next c))
-      (by-test (isMode (field 2))
-      (λ f. rw (f, may-have f)
-      (by-test (is "IR_BLASTER" (field 2) && not (eqb p 3))
-      (λ g. rw g)
-      (λ g. rw g (alone-row (next c) (request.SetIr p (modeIn (field 2))) ∙ rw (word-back (field 2) f)))))
-      (λ f. rw f)))
+      record {
+        is =
+            one-row name.SetIr 1 e (λ j. refl) (omega arith)
+            (λ at c h. rw (h, mode-is (next c))
+            (by-test (isMode (field 2))
+            (λ f. rw (f, may-have f)
+            (by-test (is "IR_BLASTER" (field 2) && not (eqb p 3))
+            (λ g. rw g)
+            (λ g. rw g (alone-row (next c) (request.SetIr p (modeIn (field 2))) ∙ rw (word-back (field 2) f)))))
+            (λ f. rw f)));
+      }
 
   -- a code that was read, as checks
   code-row : (f : Fields) (code : Reading)
@@ -189,17 +201,20 @@ module _ (log : List Deed) (connection : ℕ) (s : List ℕ) where
   code-row f (pairs ps) = refl
   code-row f (fault n) = refl
 
-  sendir-row : nameOf name.SendIr ≡ field 0 → gives (table.sendir log connection s) ≡ makes (addressed s name.SendIr)
+  sendir-row : nameOf name.SendIr ≡ field 0 → Agrees (table.sendir log connection s) (addressed s name.SendIr)
   unfolding table.sendir sentAt capped
-  sendir-row e = one-row name.SendIr 1 e (λ j. refl) (omega arith) (λ at c h. rw (h, within-is (next c) 0 65535 (omega arith))
-      (by-test (sensorAt p log) (λ z. rw z) λ z. rw z
-      (by-test (within 0 65535 (field 2)) (λ i. rw (i, within-is (next (next c)) 15000 500000 (omega arith))
-      (by-test (within 15000 500000 (field 3)) (λ q. rw (q, within-is (next (next (next c))) 1 999999 (omega arith))
-      (by-test (within 1 999999 (field 4)) (λ r. rw (r, within-is (next (next (next (next c)))) 1 383 (omega arith))
-      (by-test (within 1 383 (field 5)) (λ o. rw o
-      (by-test (eqb (worth 0 (field 5) % 2) 0) (λ v. rw v)
-      λ v. rw (v, ← next (next (next (next (next c)))) .stands, ← code-bytewise, code-row)))
-      (λ o. rw o))) (λ r. rw r))) (λ q. rw q))) (λ i. rw i))))
+  sendir-row e =
+      record {
+        is = one-row name.SendIr 1 e (λ j. refl) (omega arith) (λ at c h. rw (h, within-is (next c) 0 65535 (omega arith))
+            (by-test (sensorAt p log) (λ z. rw z) λ z. rw z
+            (by-test (within 0 65535 (field 2)) (λ i. rw (i, within-is (next (next c)) 15000 500000 (omega arith))
+            (by-test (within 15000 500000 (field 3)) (λ q. rw (q, within-is (next (next (next c))) 1 999999 (omega arith))
+            (by-test (within 1 999999 (field 4)) (λ r. rw (r, within-is (next (next (next (next c)))) 1 383 (omega arith))
+            (by-test (within 1 383 (field 5)) (λ o. rw o
+            (by-test (eqb (worth 0 (field 5) % 2) 0) (λ v. rw v)
+            λ v. rw (v, ← next (next (next (next (next c)))) .stands, ← code-bytewise, code-row)))
+            (λ o. rw o))) (λ r. rw r))) (λ q. rw q))) (λ i. rw i))));
+      }
 
   -- ---- the whole line
   name-is : (w : List ℕ) → count 44 w ≡ 0 → fieldIs w s ≡ same w (field 0)
@@ -209,25 +224,39 @@ module _ (log : List Deed) (connection : ℕ) (s : List ℕ) where
   first-row r w e =
       sym (alone-row (start s) r) ∙ ap (λ (n : ℕ). makes (alone s n r)) (zero-add (length (field 0)) ∙ ap length (sym e))
 
-  getdevices-row : getdevices ≡ field 0 → gives (table.getdevices log connection s) ≡ makes (alone s (length getdevices) request.GetDevices)
+  getdevices-row : getdevices ≡ field 0 → Agrees (table.getdevices log connection s) (alone s (length getdevices) request.GetDevices)
   unfolding table.getdevices
-  getdevices-row e = first-row request.GetDevices getdevices e
+  getdevices-row e = record { is = first-row request.GetDevices getdevices e }
 
-  getversion-row : getversion ≡ field 0 → gives (table.getversion log connection s) ≡ makes (alone s (length getversion) request.GetVersion)
+  getversion-row : getversion ≡ field 0 → Agrees (table.getversion log connection s) (alone s (length getversion) request.GetVersion)
   unfolding table.getversion
-  getversion-row e = first-row request.GetVersion getversion e
+  getversion-row e = record { is = first-row request.GetVersion getversion e }
 
-  -- the table's judgement of a line is what is made of the request that it is read as
-  pub line-is : first
-      ((ltb 4096 (length s) ⇒ no 15)
-      ∷ (not (all (between 32 126) s) ⇒ no 1)
-      ∷ table.request log connection s .checks) (table.request log connection s .otherwise)
-      ≡ meant log connection s (readRequest s)
+  -- one name more
+  by-name : (w : List ℕ) {r q : Row} {asked other : Request} → (w ≡ field 0 → Agrees r asked) → Agrees q other
+      → Agrees (cond (same w (field 0)) r q) (cond (same w (field 0)) asked other)
+  by-name w f g = by-test (same w (field 0)) (λ t. rw t (f (same-is w (field 0) t))) (λ t. rw t g)
+
+  -- the same for a name with an address
+  record AgreesNamed (r : Row) (n : NameRead) : Type 0 where
+    is : Agrees r (named s n)
+
+  by-address : (n : Name) {r q : Row} {other : NameRead} → (nameOf n ≡ field 0 → Agrees r (addressed s n)) → AgreesNamed q other
+      → AgreesNamed (cond (same (nameOf n) (field 0)) r q) (cond (same (nameOf n) (field 0)) (Known n) other)
+  by-address n f g =
+      by-test (same (nameOf n) (field 0)) (λ t. rw t (record { is = f (same-is (nameOf n) (field 0) t) })) (λ t. rw t g)
+
+  -- 001 "the name up to the first comma is unknown"
+  unknown : AgreesNamed (table.row [] (no 1)) Unknown
+  unknown = record { is = record { is = refl } }
+
+  request-row : ltb 4096 (length s) ≡ false → all (between 32 126) s ≡ true → Agrees (table.request log connection s) (readRequest s)
   unfolding table.request readRequest nameAt
-  line-is =
-      let f = field 0 in
+  request-row short plain =
       rw (
+        short,
         all-alike isPrintable (between 32 126) (between-is 32 126) s,
+        plain,
         name-is getdevices refl,
         name-is getversion refl,
         name-is (nameOf name.SetIr) refl,
@@ -237,14 +266,30 @@ module _ (log : List Deed) (connection : ℕ) (s : List ℕ) where
         name-is (nameOf name.SendIr) refl,
         name-is (nameOf name.StopIr) refl,
       )
-      (by-test (ltb 4096 (length s)) (λ e. rw e) λ e. rw e
-      (by-test (all (between 32 126) s) (λ a. rw a
-      (by-test (same getdevices f) (λ t. rw t (getdevices-row (same-is getdevices f t))) λ t. rw t
-      (by-test (same getversion f) (λ t. rw t (getversion-row (same-is getversion f t))) λ t. rw t
-      (by-test (same (nameOf name.SetIr) f) (λ t. rw t (set-IR-row (same-is (nameOf name.SetIr) f t))) λ t. rw t
-      (by-test (same (nameOf name.GetIr) f) (λ t. rw t (get-IR-row (same-is (nameOf name.GetIr) f t))) λ t. rw t
-      (by-test (same (nameOf name.SetState) f) (λ t. rw t (setstate-row (same-is (nameOf name.SetState) f t))) λ t. rw t
-      (by-test (same (nameOf name.GetState) f) (λ t. rw t (getstate-row (same-is (nameOf name.GetState) f t))) λ t. rw t
-      (by-test (same (nameOf name.SendIr) f) (λ t. rw t (sendir-row (same-is (nameOf name.SendIr) f t))) λ t. rw t
-      (by-test (same (nameOf name.StopIr) f) (λ t. rw t (stopir-row (same-is (nameOf name.StopIr) f t))) (λ t. rw t))))))))))
-      (λ a. rw a)))
+      (by-name getdevices getdevices-row
+      (by-name getversion getversion-row
+      (by-address name.SetIr set-IR-row
+      (by-address name.GetIr get-IR-row
+      (by-address name.SetState setstate-row
+      (by-address name.GetState getstate-row
+      (by-address name.SendIr sendir-row
+      (by-address name.StopIr stopir-row unknown))))) .is)))
+
+  -- 015, and 001 for a byte
+  too-long : ltb 4096 (length s) ≡ true → makes (readRequest s) ≡ no 15
+  unfolding readRequest
+  too-long long = rw long
+
+  unprintable : ltb 4096 (length s) ≡ false → all (between 32 126) s ≡ false → makes (readRequest s) ≡ no 1
+  unfolding readRequest
+  unprintable short other = rw (short, all-alike isPrintable (between 32 126) (between-is 32 126) s, other)
+
+  -- the table's judgement of a line is what is made of the request that the line is read as
+  pub line-is : first
+      ((ltb 4096 (length s) ⇒ no 15)
+      ∷ (not (all (between 32 126) s) ⇒ no 1)
+      ∷ table.request log connection s .checks) (table.request log connection s .otherwise)
+      ≡ meant log connection s (readRequest s)
+  line-is =
+      by-test (ltb 4096 (length s)) (λ e. rw e (sym (too-long e))) λ e. rw e
+      (by-test (all (between 32 126) s) (λ a. rw a (request-row e a .is)) (λ a. rw a (sym (unprintable e a))))

@@ -59,15 +59,15 @@ past-fresh store size calls =
     past freshHub store calls (record { history = []; hub = refl; stored = record { size = size; held = λ port w. tt } })
 
 -- ---- waits of a hub that shows what is known at a moment
-module _ (t : ℕ) (K : ℕ → Known) (R : ℕ → ℕ) (fit : (p : ℕ) → FitFor t (K p .sending)) (store : List ℕ) where
-  abbrev present : Reached
-  present = record { hub = hubOf t K R; store = store }
+abbrev present : ℕ → (ℕ → Known) → (ℕ → ℕ) → List ℕ → Reached
+present t K R store = record { hub = hubOf t K R; store = store }
 
-  wait-leaves : (n : ℕ) → n ≤ 1000000000 → afterwards (at present (waiting n)) ≡ record { hub = hubOf (t + n) K R; store = store }
+module _ (t : ℕ) (K : ℕ → Known) (R : ℕ → ℕ) (fit : (p : ℕ) → FitFor t (K p .sending)) (store : List ℕ) where
+  wait-leaves : (n : ℕ) → n ≤ 1000000000 → afterwards (at (present t K R store) (waiting n)) ≡ present (t + n) K R store
   unfolding waitedStep
   wait-leaves n low = rw (le-ltb 1000000000 n low) (ap (λ (x : Hub). record { hub = x; store = store }) (wait-passes t K R fit n))
 
-  wait-gives : (n : ℕ) → n ≤ 1000000000 → at present (waiting n) .completions ≡ completions t K n
+  wait-gives : (n : ℕ) → n ≤ 1000000000 → at (present t K R store) (waiting n) .completions ≡ completions t K n
   unfolding waitedStep
   wait-gives n low = rw (le-ltb 1000000000 n low) (wait-completes t K R fit n)
 
@@ -83,14 +83,14 @@ due-at-once t port x none = refl
 due-at-once t port x (some s) = by-test (complete s t) (λ e. rw e) (λ e. rw (e, add-zero t, e))
 
 module _ (t : ℕ) (K : ℕ → Known) (R : ℕ → ℕ) (fit : (p : ℕ) → FitFor t (K p .sending)) (store : List ℕ) where
-  two-waits : (a b : ℕ) → a + b ≤ 1000000000 → Composes (present t K R fit store) a b
+  two-waits : (a b : ℕ) → a + b ≤ 1000000000 → Composes (present t K R store) a b
   two-waits a b short =
       let first = wait-leaves t K R fit store a (omega arith) in
       let later : (p : ℕ) → FitFor (t + a) (K p .sending) = λ p. fit-after t (t + a) (K p .sending) (omega arith) (fit p) in
-      let hubs : afterwards (at (afterwards (at (present t K R fit store) (waiting a))) (waiting b))
-      ≡ afterwards (at (present t K R fit store) (waiting (a + b))) =
+      let hubs : afterwards (at (afterwards (at (present t K R store) (waiting a))) (waiting b))
+      ≡ afterwards (at (present t K R store) (waiting (a + b))) =
       ap (λ (r : Reached). afterwards (at r (waiting b))) first ∙ wait-leaves (t + a) K R later store b (omega arith)
-      ∙ ap (λ (u : ℕ). record { hub = hubOf u K R; store = store }) (add-assoc t a b)
+      ∙ ap (λ (u : ℕ). present u K R store) (add-assoc t a b)
       ∙ sym (wait-leaves t K R fit store (a + b) short) in
       record {
         completions =
@@ -101,11 +101,11 @@ module _ (t : ℕ) (K : ℕ → Known) (R : ℕ → ℕ) (fit : (p : ℕ) → Fi
         later = λ l. ap (λ (r : Reached). run (r .hub) (r .store) l) hubs;
       }
 
-  no-wait : ChangesNothing (present t K R fit store) (waiting 0)
+  no-wait : ChangesNothing (present t K R store) (waiting 0)
   unfolding waitedStep
   no-wait =
-      let same : afterwards (at (present t K R fit store) (waiting 0)) ≡ present t K R fit store =
-      wait-leaves t K R fit store 0 (omega arith) ∙ ap (λ (u : ℕ). record { hub = hubOf u K R; store = store }) (add-zero t) in
+      let same : afterwards (at (present t K R store) (waiting 0)) ≡ present t K R store =
+      wait-leaves t K R fit store 0 (omega arith) ∙ ap (λ (u : ℕ). present u K R store) (add-zero t) in
       record {
         accepted = refl;
         hub = same;

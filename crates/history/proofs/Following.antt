@@ -31,7 +31,8 @@ use Rattle.history.proofs.Known.{Known, error}
 use Rattle.history.proofs.Agrees.{hubOf, Stored, Means, unmoved, means-alike}
 use Rattle.history.proofs.Asking.{asked-means}
 use Rattle.history.proofs.Calling.{wait-passes, wait-completes, stored-later, closed-means, reading-means, carriers-shown}
-use Rattle.history.proofs.View.{view, worded, request-step, now-step, relay-step, request-said, reading-step, reading-said, closing-step, completions-are, carriers-are}
+use Rattle.history.proofs.View.{view, worded, request-step, now-step, relay-step, reading-step, closing-step}
+use Rattle.history.proofs.Told.{request-said, reading-said, carriers-are, completions-are}
 use Rattle.history.proofs.Logged.{logged-fit}
 
 -- the hub that shows a log

@@ -5,10 +5,11 @@ pub mod Agrees
 pub mod Asking
 pub mod Joining
 pub mod Calling
-pub mod Waits
 pub mod View
+pub mod Told
 pub mod Logged
 pub mod Following
+pub mod Waits
 pub mod Composing
 pub mod Sound
 pub mod Moments

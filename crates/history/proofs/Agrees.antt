@@ -1,4 +1,4 @@
--- The hub's record and store are what the history means, and every call of theirs is answered as it says.
+-- The hub's record and store that show what is known at a moment, and a step of theirs.
 use Prim.Native.Nat.{ℕ, zero, suc, _-_}
 use mathlib.Core.Path.{_≡_, refl, sym, _∙_, subst}
 use mathlib.Core.Bool.{cond}
@@ -15,7 +15,7 @@ use Rattle.hub.specs.declared.Answer.{Answer}
 use Rattle.hub.specs.declared.Hub.{Hub}
 use Rattle.hub.specs.Record.{connectorAt, withConnector}
 use Rattle.hub.specs.Send.{Step, decidedAs, unchanged}
-use Rattle.history.specs.Known.{Known, onAir}
+use Rattle.history.proofs.Known.{Known, onAir}
 use Rattle.history.proofs.Shown.{shown, HeldIn}
 
 -- ---- three of a kind, one for each port
@@ -40,7 +40,7 @@ set-three {A} K L =
     each-port (λ port. (x : A) → x ≡ L port → set (three K) (port - 1) x ≡ three (λ p. cond (eqb port p) (L p) (K p)))
     (λ x e. rw e) (λ x e. rw e) (λ x e. rw e)
 
--- ---- the hub of a history
+-- ---- the hub that shows it
 abbrev pub hubOf : ℕ → (ℕ → Known) → (ℕ → ℕ) → Hub
 hubOf t K R = record { connectors = three (λ p. shown t (K p)); relays = three R }
 
@@ -54,6 +54,11 @@ pub record Means (t : ℕ) (a : Answer) (K : ℕ → Known) (R : ℕ → ℕ) (s
   pub said : step .decided .answer ≡ a
   pub hub : step .decided .hub ≡ hubOf t K R
   pub stored : Stored (step .store) t K
+
+-- an answer that changes nothing
+pub unmoved : {t : ℕ} {K : ℕ → Known} {R : ℕ → ℕ} {store : List ℕ} → Stored store t K → (a : Answer)
+    → Means t a K R (unchanged (decidedAs a (hubOf t K R)) store)
+unmoved st a = record { said = refl; hub = refl; stored = st }
 
 -- it depends on what is known port by port
 pub means-alike : {t : ℕ} {a : Answer} {K L : ℕ → Known} {R S : ℕ → ℕ} {step : Step} → ((p : ℕ) → PortWithin p → K p ≡ L p)

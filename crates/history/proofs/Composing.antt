@@ -1,39 +1,51 @@
--- Waiting composes, from a fresh hub and after any calls.
+-- Waiting composes, from a fresh hub and after any calls; a wait of 0 changes nothing.
 use Prim.Native.Nat.{ℕ, _+_, _≤_}
 use mathlib.Core.Path.{_≡_, refl, sym, ap, ap₂, _∙_, subst}
+use mathlib.Core.Bool.{true}
 use mathlib.Core.List.{List, [], _∷_, _++_, map}
+use mathlib.Core.Option.{Option, none, some}
 use native.Mathlib.Omega.{arith}
+use native.Mathlib.Nat.{add-assoc, add-zero}
+use lib.Dec.{ltb}
 use lib.ListN.{length}
 use borrow.Author.Tests.{le-ltb}
+use Rattle.laws.proofs.Choice.{by-test}
+use Rattle.meaning.specs.Time.{Transmission, complete}
+use Rattle.meaning.specs.Log.{now, relayOf}
+use Rattle.meaning.specs.Table.{Call, waiting, logOf}
 use Rattle.connector.specs.declared.Completion.{Completion}
 use Rattle.hub.specs.declared.Hub.{Hub}
 use Rattle.hub.specs.Record.{freshHub}
-use Rattle.history.specs.Calls.{Call, waiting, longestWait, clock}
-use Rattle.history.specs.Known.{known, relay}
-use Rattle.history.specs.Answers.{completions, returned}
-use Rattle.history.specs.Replay.{Outcome, run, called}
-use Rattle.history.specs.Waiting.{movedBy, Reached, reached, at, afterwards, Composes}
-use Rattle.history.proofs.Agrees.{hubOf, Stored}
-use Rattle.history.proofs.Following.{hubAfter, Follows, follows}
+use Rattle.hub.specs.Wait.{waitedStep}
+use Rattle.history.specs.Run.{Outcome, called, run}
+use Rattle.history.specs.Waiting.{movedBy, Reached, reached, at, afterwards, Composes, ChangesNothing}
+use Rattle.reads.proofs.Cursor.{modeIn}
+use Rattle.history.proofs.Known.{Known, onAir, dueOf}
+use Rattle.history.proofs.Shown.{FitFor}
+use Rattle.history.proofs.Fits.{fit-after}
+use Rattle.history.proofs.Agrees.{hubOf}
+use Rattle.history.proofs.Joining.{completions}
+use Rattle.history.proofs.Calling.{wait-passes, wait-completes}
 use Rattle.history.proofs.Waits.{completions-add}
-use Rattle.history.proofs.Later.{clock-add}
+use Rattle.history.proofs.View.{view}
+use Rattle.history.proofs.Logged.{logged-fit}
+use Rattle.history.proofs.Following.{hubAt, Keeps, follows}
 
 -- the hub of some history, with its store
 record Past (r : Reached) : Type 0 where
   history : List Call
-  hub : r .hub ≡ hubAfter history
-  stored : Stored (r .store) (clock history) (known history)
+  hub : r .hub ≡ hubAt (logOf history)
+  stored : Keeps (r .store) (logOf history)
 
 past-call : (hub : Hub) (store : List ℕ) (call : Call) → Past (record { hub = hub; store = store })
     → Past (afterwards (called hub store call))
 past-call hub store call p =
     let f = follows (p .history) store (p .stored) call in
-    let same : called hub store call ≡ called (hubAfter (p .history)) store call = ap (λ (x : Hub). called x store call) (p .hub) in
+    let same : called hub store call ≡ called (hubAt (logOf (p .history))) store call = ap (λ (x : Hub). called x store call) (p .hub) in
     record {
       history = call ∷ p .history;
       hub = ap (λ (o : Outcome). o .step .decided .hub) same ∙ f .hub;
-      stored =
-          subst (λ (o : Outcome). Stored (o .step .store) (clock (call ∷ p .history)) (known (call ∷ p .history))) (sym same) (f .stored);
+      stored = subst (λ (o : Outcome). Keeps (o .step .store) (logOf (call ∷ p .history))) (sym same) (f .stored);
     }
 
 past : (hub : Hub) (store : List ℕ) (l : List Call) → Past (record { hub = hub; store = store }) → Past (reached hub store l)
@@ -41,47 +53,88 @@ past hub store [] p = p
 past hub store (call ∷ l) p =
     past (called hub store call .step .decided .hub) (called hub store call .step .store) l (past-call hub store call p)
 
-module _ (h : List Call) (store : List ℕ) (st : Stored store (clock h) (known h)) (a b : ℕ) (short : a + b ≤ longestWait) where
-  abbrev now : Reached
-  now = record { hub = hubAfter h; store = store }
+past-fresh : (store : List ℕ) → length store ≡ 1560 → (calls : List Call) → Past (reached freshHub store calls)
+unfolding modeIn
+past-fresh store size calls =
+    past freshHub store calls (record { history = []; hub = refl; stored = record { size = size; held = λ port w. tt } })
 
-  listed : (k : List Call) (n : ℕ) → n ≤ longestWait → returned k (waiting n) ≡ completions k n
-  listed k n low = rw (le-ltb longestWait n low)
+-- ---- waits of a hub that shows what is known at a moment
+abbrev present : ℕ → (ℕ → Known) → (ℕ → ℕ) → List ℕ → Reached
+present t K R store = record { hub = hubOf t K R; store = store }
 
-  first-hub : at now (waiting a) .step .decided .hub ≡ hubAfter (waiting a ∷ h)
-  first-hub = follows h store st (waiting a) .hub
+module _ (t : ℕ) (K : ℕ → Known) (R : ℕ → ℕ) (fit : (p : ℕ) → FitFor t (K p .sending)) (store : List ℕ) where
+  wait-leaves : (n : ℕ) → n ≤ 1000000000 → afterwards (at (present t K R store) (waiting n)) ≡ present (t + n) K R store
+  unfolding waitedStep
+  wait-leaves n low = rw (le-ltb 1000000000 n low) (ap (λ (x : Hub). record { hub = x; store = store }) (wait-passes t K R fit n))
 
-  second-is : at (afterwards (at now (waiting a))) (waiting b) ≡ called (hubAfter (waiting a ∷ h)) store (waiting b)
-  second-is = ap (λ (x : Hub). called x store (waiting b)) first-hub
+  wait-gives : (n : ℕ) → n ≤ 1000000000 → at (present t K R store) (waiting n) .completions ≡ completions t K n
+  unfolding waitedStep
+  wait-gives n low = rw (le-ltb 1000000000 n low) (wait-completes t K R fit n)
 
-  second-follows : Follows (waiting a ∷ h) (waiting b) (called (hubAfter (waiting a ∷ h)) store (waiting b))
-  second-follows = follows (waiting a ∷ h) store (follows h store st (waiting a) .stored) (waiting b)
+-- a wait that is refused completes nothing
+pub refused-completes-nothing : (hub : Hub) (store : List ℕ) (n : ℕ) → ltb 1000000000 n ≡ true
+    → called hub store (waiting n) .completions ≡ []
+unfolding waitedStep
+refused-completes-nothing hub store n e = rw e
 
-  hubs : afterwards (at (afterwards (at now (waiting a))) (waiting b)) ≡ afterwards (at now (waiting (a + b)))
-  hubs =
-      let two : at (afterwards (at now (waiting a))) (waiting b) .step .decided .hub ≡ hubAfter (waiting b ∷ waiting a ∷ h) =
-      ap (λ (o : Outcome). o .step .decided .hub) second-is ∙ second-follows .hub in
-      let same : hubAfter (waiting b ∷ waiting a ∷ h) ≡ hubAfter (waiting (a + b) ∷ h) =
-      ap (λ (t : ℕ). hubOf t (known h) (relay h)) (clock-add h a b short) in
-      ap (λ (x : Hub). record { hub = x; store = store }) (two ∙ same ∙ sym (follows h store st (waiting (a + b)) .hub))
+-- nothing is complete at once
+due-at-once : (t port : ℕ) (x : Known) (o : Option Transmission) → dueOf t 0 port x (onAir t o) ≡ []
+due-at-once t port x none = refl
+due-at-once t port x (some s) = by-test (complete s t) (λ e. rw e) (λ e. rw (e, add-zero t, e))
 
-  composes-after : Composes now a b
-  composes-after =
+module _ (t : ℕ) (K : ℕ → Known) (R : ℕ → ℕ) (fit : (p : ℕ) → FitFor t (K p .sending)) (store : List ℕ) where
+  two-waits : (a b : ℕ) → a + b ≤ 1000000000 → Composes (present t K R store) a b
+  two-waits a b short =
+      let first = wait-leaves t K R fit store a (omega arith) in
+      let later : (p : ℕ) → FitFor (t + a) (K p .sending) = λ p. fit-after t (t + a) (K p .sending) (omega arith) (fit p) in
+      let hubs : afterwards (at (afterwards (at (present t K R store) (waiting a))) (waiting b))
+      ≡ afterwards (at (present t K R store) (waiting (a + b))) =
+      ap (λ (r : Reached). afterwards (at r (waiting b))) first ∙ wait-leaves (t + a) K R later store b (omega arith)
+      ∙ ap (λ (u : ℕ). present u K R store) (add-assoc t a b)
+      ∙ sym (wait-leaves t K R fit store (a + b) short) in
       record {
         completions =
-            follows h store st (waiting (a + b)) .completed ∙ listed h (a + b) short ∙ completions-add h a b short
-            ∙ ap₂ (λ (x y : List Completion). x ++ map (movedBy a) y)
-            (sym (follows h store st (waiting a) .completed ∙ listed h a (omega arith)))
-            (sym (ap (λ (o : Outcome). o .completions) second-is ∙ second-follows .completed ∙ listed (waiting a ∷ h) b (omega arith)));
+            wait-gives t K R fit store (a + b) short ∙ completions-add t K fit a b
+            ∙ ap₂ (λ (x y : List Completion). x ++ map (movedBy a) y) (sym (wait-gives t K R fit store a (omega arith)))
+            (sym (ap (λ (r : Reached). at r (waiting b) .completions) first ∙ wait-gives (t + a) K R later store b (omega arith)));
         hub = hubs;
         later = λ l. ap (λ (r : Reached). run (r .hub) (r .store) l) hubs;
       }
 
--- after any calls, an accepted wait and two of the same sum
-pub waiting-composes : (store : List ℕ) → length store ≡ 1560 → (calls : List Call) (a b : ℕ) → a + b ≤ longestWait
+  no-wait : ChangesNothing (present t K R store) (waiting 0)
+  unfolding waitedStep
+  no-wait =
+      let same : afterwards (at (present t K R store) (waiting 0)) ≡ present t K R store =
+      wait-leaves t K R fit store 0 (omega arith) ∙ ap (λ (u : ℕ). present u K R store) (add-zero t) in
+      record {
+        accepted = refl;
+        hub = same;
+        completions =
+            wait-gives t K R fit store 0 (omega arith)
+            ∙ rw (due-at-once t 1 (K 1) (K 1 .sending), due-at-once t 2 (K 2) (K 2 .sending), due-at-once t 3 (K 3) (K 3 .sending));
+        later = λ l. ap (λ (r : Reached). run (r .hub) (r .store) l) same;
+      }
+
+-- ---- after any calls
+
+-- what holds of every hub that shows a history holds of every hub that calls reached
+after-any : (P : Reached → Type 0)
+    → ((h : List Call) (store : List ℕ) → P (record { hub = hubAt (logOf h); store = store }))
+    → (store : List ℕ) → length store ≡ 1560 → (calls : List Call) → P (reached freshHub store calls)
+after-any P each store size calls =
+    let p = past-fresh store size calls in
+    let r = reached freshHub store calls in
+    subst (λ (x : Hub). P (record { hub = x; store = r .store })) (sym (p .hub)) (each (p .history) (r .store))
+
+-- an accepted wait, and two of the same sum
+pub waiting-composes : (store : List ℕ) → length store ≡ 1560 → (calls : List Call) (a b : ℕ) → a + b ≤ 1000000000
     → Composes (reached freshHub store calls) a b
 waiting-composes store size calls a b short =
-    let p = past freshHub store calls (record { history = []; hub = refl; stored = record { size = size; held = λ port w. tt } }) in
-    let r = reached freshHub store calls in
-    subst (λ (x : Hub). Composes (record { hub = x; store = r .store }) a b) (sym (p .hub))
-    (composes-after (p .history) (r .store) (p .stored) a b short)
+    after-any (λ r. Composes r a b)
+    (λ h s. two-waits (now (logOf h)) (view (logOf h)) (λ p. relayOf p (logOf h)) (logged-fit h) s a b short) store size calls
+
+-- "A wait of 0 changes nothing."
+pub wait-of-0 : (store : List ℕ) → length store ≡ 1560 → (calls : List Call) → ChangesNothing (reached freshHub store calls) (waiting 0)
+wait-of-0 =
+    after-any (λ r. ChangesNothing r (waiting 0))
+    (λ h s. no-wait (now (logOf h)) (view (logOf h)) (λ p. relayOf p (logOf h)) (logged-fit h) s)

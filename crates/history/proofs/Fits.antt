@@ -1,11 +1,11 @@
--- Every transmission of a history is one of an accepted command, at a moment since its start.
+-- What is fit stays fit: a request that was read keeps every transmission one of an accepted command, at a moment since its start, and so
+-- does time.
 use Prim.Native.Nat.{ℕ, _+_, _-_, _*_, _≤_, _<_}
 use mathlib.Core.Path.{_≡_, refl, subst}
 use mathlib.Core.Bool.{not}
-use mathlib.Core.List.{List, [], _∷_}
+use mathlib.Core.List.{List}
 use mathlib.Core.Option.{Option, none, some}
 use native.Mathlib.Omega.{arith}
-use lib.Dec.{ltb, eqb}
 use lib.ListN.{length}
 use borrow.Author.Tests.{ltb-true}
 use Rattle.laws.proofs.Choice.{cond-case}
@@ -20,14 +20,11 @@ use Rattle.request.specs.declared.fields.Sent.the-variants as sent
 use Rattle.request.specs.declared.Request.{Request}
 use Rattle.request.specs.declared.Request.the-variants as request
 use Rattle.request.specs.Accepted.{FieldsWithin, SentWithin, Within}
-use Rattle.request.specs.Request.{readRequest}
-use Rattle.request.proofs.Accepted.{within}
 use Rattle.meaning.specs.Time.{Transmission}
 use Rattle.waveform.proofs.Paced.{Fit, fit-started, fit-renewed, fit-later}
 use Rattle.connector.specs.Change.{owns, sameMode}
 use Rattle.connector.specs.Send.{transmitsNot}
-use Rattle.history.specs.Calls.{Call, line, overlong, reading, closing, waiting, longestWait, clock}
-use Rattle.history.specs.Known.{Known, Sendir, wrong, command, onAir, transmits, codeOf, sendirOf, sameCommand, commanded, sentTo, concerns, asked, withMode, known}
+use Rattle.history.proofs.Known.{Known, Sendir, wrong, command, onAir, transmits, codeOf, sendirOf, sameCommand, commanded, sentTo, concerns, asked, made, withMode}
 use Rattle.history.proofs.Shown.{FitFor, fit-on-air}
 
 -- what is known of a command that a line carries
@@ -84,30 +81,13 @@ module _ (t connection : ℕ) (x : Known) (g : FitFor t (x .sending)) where
   asked-fit text (request.StopIr port) w =
       cond-case (λ (y : Known). FitFor t (y .sending)) (transmitsNot (x .mode)) _ _ (λ e. g) (λ e. tt)
 
-fit-after : (t u : ℕ) (o : Option Transmission) → t ≤ u → FitFor t o → FitFor u o
+-- of all connectors
+pub made-fit : (t connection : ℕ) (text : List ℕ) (K : ℕ → Known) (r : Request) → Within r → (p : ℕ) → FitFor t (K p .sending)
+    → FitFor t (made t connection text K r p .sending)
+made-fit t connection text K r w p g =
+    cond-case (λ (y : Known). FitFor t (y .sending)) (concerns r p) _ _ (λ e. asked-fit t connection (K p) g text r w) (λ e. g)
+
+-- time passes
+pub fit-after : (t u : ℕ) (o : Option Transmission) → t ≤ u → FitFor t o → FitFor u o
 fit-after t u none h g = tt
 fit-after t u (some s) h g = let e : t + (u - t) ≡ u = omega arith in subst (Fit s) e (fit-later g (u - t))
-
--- time never runs back
-not-back : (h : List Call) (n : ℕ) → clock h ≤ clock (waiting n ∷ h)
-not-back h n = cond-case (λ (t : ℕ). clock h ≤ t) (ltb longestWait n) _ _ (λ e. omega arith) (λ e. omega arith)
-
--- ---- so after every history
-pub known-fit : (h : List Call) (p : ℕ) → FitFor (clock h) (known h p .sending)
-known-fit [] p = tt
-known-fit (line connection room text ∷ h) p =
-    cond-case (λ (y : Known). FitFor (clock h) (y .sending)) (ltb 7 connection) _ _ (λ e. known-fit h p)
-    (λ e. cond-case (λ (y : Known). FitFor (clock h) (y .sending)) (ltb room 128) _ _ (λ e. known-fit h p)
-    (λ e. cond-case (λ (y : Known). FitFor (clock h) (y .sending)) (concerns (readRequest text) p) _ _
-    (λ e. asked-fit (clock h) connection (known h p) (known-fit h p) text (readRequest text) (within text))
-    (λ e. known-fit h p)))
-known-fit (overlong connection room ∷ h) p = known-fit h p
-known-fit (reading port value ∷ h) p =
-    cond-case (λ (y : Known). FitFor (clock h) (y .sending)) (eqb port p) _ _
-    (λ e. cond-case (λ (y : Known). FitFor (clock h) (y .sending)) (not (transmitsNot (known h p .mode))) _ _ (λ e. known-fit h p)
-    (λ e. cond-case (λ (y : Known). FitFor (clock h) (y .sending)) (ltb 1 value) _ _ (λ e. known-fit h p) (λ e. known-fit h p)))
-    (λ e. known-fit h p)
-known-fit (closing connection ∷ h) p =
-    cond-case (λ (y : Known). FitFor (clock h) (y .sending)) (ltb 7 connection) _ _ (λ e. known-fit h p) (λ e. known-fit h p)
-known-fit (waiting n ∷ h) p =
-    fit-after (clock h) (clock (waiting n ∷ h)) (known h p .sending) (not-back h n) (known-fit h p)

@@ -1,4 +1,4 @@
--- The record of a connector that is known, at a moment; each rule of the meaning is the record's rule.
+-- The record of a connector that is known, at a moment; each rule of what is known is the record's rule.
 use Prim.Native.Nat.{ℕ, _+_, _*_, _-_, _<_}
 use mathlib.Core.Path.{_≡_, refl, sym, ap, _∙_}
 use mathlib.Core.Bool.{Bool, true, false, cond, not, _&&_}
@@ -34,8 +34,7 @@ use Rattle.connector.specs.Send.{runOf}
 use Rattle.connector.specs.Pass.{passedRun, passedConnector}
 use Rattle.connector.specs.Carrier as carried
 use Rattle.connector.specs.Completions.{doneOf}
-use Rattle.history.specs.Known.{Known, onAir, isSome, transmits, withSending, withMode, sameCommand}
-use Rattle.history.specs.Answers.{dueOf, told, carrierOf}
+use Rattle.history.proofs.Known.{Known, onAir, isSome, transmits, withSending, withMode, sameCommand, told, dueOf, carrierOf}
 
 -- ---- the record
 

@@ -1,23 +1,30 @@
 -- A connector in SENSOR transmits nothing, after every history.
 use Prim.Native.Nat.{ℕ, _+_}
-use mathlib.Core.Path.{_≡_, refl}
-use mathlib.Core.Bool.{Bool, true, false, cond, not}
-use mathlib.Core.List.{List, [], _∷_}
+use mathlib.Core.Path.{_≡_, refl, sym, subst}
+use mathlib.Core.Bool.{Bool, true, false, cond, not, _&&_}
+use mathlib.Core.List.{List, [], _∷_, _++_}
 use mathlib.Core.Option.{Option, none, some}
-use lib.Dec.{ltb, eqb}
+use lib.Dec.{ltb}
+use Rattle.laws.specs.Checks.{between}
 use Rattle.laws.proofs.Choice.{cond-case, not-both}
+use Rattle.words.specs.declared.Pair.{Pair}
+use Rattle.words.specs.declared.Fields.{Fields}
+use Rattle.meaning.specs.Time.{Transmission, complete}
+use Rattle.meaning.specs.Line.{is}
+use Rattle.meaning.specs.Log.{Deed, now, modeOf, lastOf}
+use Rattle.meaning.specs.Table.{Judged, deedsOf, Call, line, overlong, reading, closing, waiting, judge, logOf}
 use Rattle.request.specs.declared.Request.{Request}
 use Rattle.request.specs.declared.Request.the-variants as request
 use Rattle.request.specs.Request.{readRequest}
-use Rattle.meaning.specs.Time.{Transmission, complete}
+use Rattle.reads.proofs.Rows.{line-is}
 use Rattle.waveform.proofs.Paced.{complete-later}
-use Rattle.connector.specs.Change.{sameMode}
+use Rattle.connector.specs.Change.{owns, sameMode}
 use Rattle.connector.specs.Send.{transmitsNot}
-use Rattle.history.specs.Calls.{Call, line, overlong, reading, closing, waiting, longestWait, clock}
-use Rattle.history.specs.Known.{Known, onAir, isSome, transmits, sendirOf, withMode, concerns, asked, known}
+use Rattle.history.proofs.Known.{Known, Sendir, wrong, command, onAir, isSome, transmits, sendirOf, sameCommand, commanded, sentTo, withMode, concerns, asked}
 use Rattle.history.proofs.Shown.{FitFor}
-use Rattle.history.proofs.Fits.{known-fit}
-use Rattle.history.proofs.Readings.{sent-kept}
+use Rattle.reads.proofs.Meant.{meant}
+use Rattle.history.proofs.View.{view, worded, request-step, now-step}
+use Rattle.history.proofs.Logged.{logged-fit}
 
 abbrev Silent : ℕ → Known → Type 0
 Silent t x = transmitsNot (x .mode) ≡ true → onAir t (x .sending) ≡ none
@@ -25,6 +32,18 @@ Silent t x = transmitsNot (x .mode) ≡ true → onAir t (x .sending) ≡ none
 none-of : (o : Option Transmission) → isSome o ≡ false → o ≡ none
 none-of none e = refl
 none-of (some s) e = not-both refl e
+
+-- a sendir changes no mode
+module _ (t connection : ℕ) (x : Known) where
+  commanded-mode : (f : Fields) (ps : List Pair) (o : Option Transmission) → commanded t connection x f ps o .mode ≡ x .mode
+  commanded-mode f ps none = refl
+  commanded-mode f ps (some s) =
+      cond-case (λ (y : Known). y .mode ≡ x .mode) (not (owns (x .owner) connection)) _ _ (λ _. refl)
+      (λ _. cond-case (λ (y : Known). y .mode ≡ x .mode) (sameCommand s f ps) _ _ (λ _. refl) (λ _. refl))
+
+  sent-mode : (y : Sendir) → sentTo t connection x y .mode ≡ x .mode
+  sent-mode (wrong number) = refl
+  sent-mode (command f ps) = commanded-mode f ps (onAir t (x .sending))
 
 asked-silent : (t connection : ℕ) (text : List ℕ) (x : Known) → Silent t x → (r : Request) → Silent t (asked t connection text x r)
 asked-silent t connection text x g (request.Fault number m port) = g
@@ -39,7 +58,7 @@ asked-silent t connection text x g (request.GetRelay port) = g
 asked-silent t connection text x g (request.GetContact port) = g
 asked-silent t connection text x g (request.SendIr port s) =
     cond-case (Silent t) (transmitsNot (x .mode)) _ _ (λ e. g)
-    (λ e sensor. not-both sensor (rw (sent-kept t connection x (sendirOf text s) .mode) e))
+    (λ e sensor. not-both sensor (rw (sent-mode t connection x (sendirOf text s)) e))
 asked-silent t connection text x g (request.StopIr port) =
     cond-case (Silent t) (transmitsNot (x .mode)) _ _ (λ e. g) (λ e sensor. refl)
 
@@ -51,22 +70,34 @@ none-later t n (some s) g = by (complete s t) refl
     by true e f = rw (complete-later g n e)
     by false e f = cc
 
--- while a connector is in SENSOR, nothing of it is on air
-pub sensor-silent : (h : List Call) (p : ℕ) → transmitsNot (known h p .mode) ≡ true → onAir (clock h) (known h p .sending) ≡ none
+-- ---- so every call keeps it
+module _ (h : List Call) (p : ℕ) (quiet : Silent (now (logOf h)) (view (logOf h) p)) where
+  abbrev log : List Deed
+  log = logOf h
+
+  abbrev SilentBy : Judged → Type 0
+  SilentBy j = Silent (now (deedsOf j ++ log)) (view (deedsOf j ++ log) p)
+
+  request-silent : (connection : ℕ) (text : List ℕ) (r : Request) → SilentBy (meant log connection text r)
+  request-silent connection text r =
+      rw (now-step log connection text r)
+      (subst (Silent (now log)) (sym (request-step log connection text p (worded h) r))
+      (cond-case (Silent (now log)) (concerns r p) _ _ (λ _. asked-silent (now log) connection text (view log p) quiet r) (λ _. quiet)))
+
+  call-silent : (call : Call) → SilentBy (judge log call)
+  call-silent (line connection room text) =
+      cond-case SilentBy (ltb 7 connection) _ _ (λ _. quiet) λ _.
+      cond-case SilentBy (ltb room 128) _ _ (λ _. quiet) λ _.
+      subst SilentBy (sym (line-is log connection text)) (request-silent connection text (readRequest text))
+  call-silent (overlong connection room) =
+      cond-case SilentBy (ltb 7 connection) _ _ (λ _. quiet) λ _. cond-case SilentBy (ltb room 128) _ _ (λ _. quiet) (λ _. quiet)
+  call-silent (reading port value) =
+      cond-case SilentBy (not (between 1 3 port && is "SENSOR" (modeOf port log) && between 0 1 value)) _ _ (λ _. quiet) (λ _. quiet)
+  call-silent (closing connection) = cond-case SilentBy (ltb 7 connection) _ _ (λ _. quiet) (λ _. quiet)
+  call-silent (waiting n) =
+      cond-case SilentBy (ltb 1000000000 n) _ _ (λ _. quiet)
+      (λ _ sensor. none-later (now log) n (lastOf p log) (logged-fit h p) (quiet sensor))
+
+pub sensor-silent : (h : List Call) (p : ℕ) → Silent (now (logOf h)) (view (logOf h) p)
 sensor-silent [] p = λ sensor. refl
-sensor-silent (line connection room text ∷ h) p =
-    cond-case (Silent (clock h)) (ltb 7 connection) _ _ (λ e. sensor-silent h p)
-    (λ e. cond-case (Silent (clock h)) (ltb room 128) _ _ (λ e. sensor-silent h p)
-    (λ e. cond-case (Silent (clock h)) (concerns (readRequest text) p) _ _
-    (λ e. asked-silent (clock h) connection text (known h p) (sensor-silent h p) (readRequest text)) (λ e. sensor-silent h p)))
-sensor-silent (overlong connection room ∷ h) p = sensor-silent h p
-sensor-silent (reading port value ∷ h) p =
-    cond-case (Silent (clock h)) (eqb port p) _ _
-    (λ e. cond-case (Silent (clock h)) (not (transmitsNot (known h p .mode))) _ _ (λ e. sensor-silent h p)
-    (λ e. cond-case (Silent (clock h)) (ltb 1 value) _ _ (λ e. sensor-silent h p) (λ e. sensor-silent h p)))
-    (λ e. sensor-silent h p)
-sensor-silent (closing connection ∷ h) p =
-    cond-case (Silent (clock h)) (ltb 7 connection) _ _ (λ e. sensor-silent h p) (λ e. sensor-silent h p)
-sensor-silent (waiting n ∷ h) p =
-    cond-case (λ (t : ℕ). Silent t (known h p)) (ltb longestWait n) (clock h) (clock h + n) (λ e. sensor-silent h p)
-    (λ e sensor. none-later (clock h) n (known h p .sending) (known-fit h p) (sensor-silent h p sensor))
+sensor-silent (call ∷ h) p = call-silent h p (sensor-silent h p) call

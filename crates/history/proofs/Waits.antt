@@ -1,4 +1,4 @@
--- Waiting composes: a wait and two of the same sum give the same completions, and all later answers are the same.
+-- The completions of a wait are those of two with the same sum, one behind the other.
 use Prim.Native.Nat.{ℕ, _+_, _-_, _≤_, _<_}
 use mathlib.Core.Path.{_≡_, refl, sym, ap, ap₂, _∙_}
 use mathlib.Core.Bool.{Bool, true, false, cond}
@@ -15,13 +15,10 @@ use Rattle.waveform.proofs.Meaning.{finish-tells, finish-first}
 use Rattle.connector.specs.declared.Completion.{Completion}
 use Rattle.connector.specs.Completions.{inserted}
 use Rattle.pace.specs.Pace.{micros}
-use Rattle.history.specs.Calls.{Call, waiting, longestWait, clock}
-use Rattle.history.specs.Known.{Known, onAir, known}
-use Rattle.history.specs.Answers.{dueOf, due, ordered, completions}
 use Rattle.history.specs.Waiting.{movedBy}
+use Rattle.history.proofs.Known.{Known, onAir, dueOf}
 use Rattle.history.proofs.Shown.{FitFor}
-use Rattle.history.proofs.Fits.{known-fit}
-use Rattle.history.proofs.Joining.{ordered-append}
+use Rattle.history.proofs.Joining.{due, ordered, completions, ordered-append}
 
 -- ---- completions up to a moment, and behind it
 abbrev Upto : ℕ → List Completion → Type 0
@@ -181,36 +178,27 @@ module _ (t a b port : ℕ) (x : Known) where
       by false e = soon e (complete s (t + a + b))
 
 -- ---- the completions of the whole hub
-module _ (h : List Call) (a b : ℕ) (short : a + b ≤ longestWait) where
-  moment-a : clock (waiting a ∷ h) ≡ clock h + a
-  moment-a = rw (le-ltb longestWait a (omega arith))
+module _ (t : ℕ) (K : ℕ → Known) (fit : (p : ℕ) → FitFor t (K p .sending)) (a b : ℕ) where
+  abbrev later : ℕ → List Completion
+  later port = map (movedBy a) (due (t + a) K b port)
 
-  abbrev early : ℕ → List Completion
-  early port = due h a port
+  both : (port : ℕ) → due t K (a + b) port ≡ due t K a port ++ later port
+  both port = due-add t a b port (K port) (K port .sending) (fit port)
 
-  abbrev late : ℕ → List Completion
-  late port = dueOf (clock h + a) b port (known h port) (onAir (clock h + a) (known h port .sending))
-
-  both : (port : ℕ) → due h (a + b) port ≡ early port ++ map (movedBy a) (late port)
-  both port = due-add (clock h) a b port (known h port) (known h port .sending) (known-fit h port)
-
-  pub completions-add : completions h (a + b) ≡ completions h a ++ map (movedBy a) (completions (waiting a ∷ h) b)
+  pub completions-add : completions t K (a + b) ≡ completions t K a ++ map (movedBy a) (completions (t + a) K b)
   completions-add =
       (λ i. ordered [] (both 1 i ++ both 2 i ++ both 3 i))
-      ∙ split-three a (early 1) (map (movedBy a) (late 1)) (early 2) (map (movedBy a) (late 2)) (early 3) (map (movedBy a) (late 3))
+      ∙ split-three a (due t K a 1) (later 1) (due t K a 2) (later 2) (due t K a 3) (later 3)
       (upto 1) (behind 1) (upto 2) (behind 2) (upto 3) (behind 3)
-      ∙ ap (λ (l : List Completion). completions h a ++ l)
-      (ap (ordered []) (moved-three (late 1) (late 2) (late 3)) ∙ ordered-moved a [] (late 1 ++ late 2 ++ late 3)
-      ∙ ap (λ (t : ℕ). map (movedBy a)
-      (ordered []
-      (dueOf t b 1 (known h 1) (onAir t (known h 1 .sending)) ++ dueOf t b 2 (known h 2) (onAir t (known h 2 .sending))
-      ++ dueOf t b 3 (known h 3) (onAir t (known h 3 .sending))))) (sym moment-a))
+      ∙ ap (λ (l : List Completion). completions t K a ++ l)
+      (ap (ordered []) (moved-three (due (t + a) K b 1) (due (t + a) K b 2) (due (t + a) K b 3))
+      ∙ ordered-moved a [] (due (t + a) K b 1 ++ due (t + a) K b 2 ++ due (t + a) K b 3))
     where
-      upto : (port : ℕ) → Upto a (early port)
-      upto port = due-upto (clock h) a b port (known h port) (known h port .sending) (known-fit h port)
+      upto : (port : ℕ) → Upto a (due t K a port)
+      upto port = due-upto t a b port (K port) (K port .sending) (fit port)
 
-      behind : (port : ℕ) → Behind a (map (movedBy a) (late port))
-      behind port = due-behind (clock h) a b port (known h port) (known h port .sending) (known-fit h port)
+      behind : (port : ℕ) → Behind a (later port)
+      behind port = due-behind t a b port (K port) (K port .sending) (fit port)
 
       moved-three : (x y z : List Completion)
           → map (movedBy a) x ++ map (movedBy a) y ++ map (movedBy a) z ≡ map (movedBy a) (x ++ y ++ z)

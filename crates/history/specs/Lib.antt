@@ -1,6 +1,4 @@
-pub mod Calls
-pub mod Known
-pub mod Answers
-pub mod Replay
+pub mod Heard
+pub mod Run
 pub mod Waiting
-pub mod Contact
+pub mod Copies

@@ -1,12 +1,13 @@
--- Two waits in the place of one. Document 01: "Of two waits, the second's moments are counted from its own start; add the first wait to compare."
+-- The hub and its store after calls, and two waits in the place of one. Document 01: "Of two waits, the second's moments are counted from its own start; add the first wait to compare."
 use Prim.Native.Nat.{ℕ, _+_}
 use mathlib.Core.Path.{_≡_}
 use mathlib.Core.List.{List, [], _∷_, _++_, map}
+use Rattle.meaning.specs.Table.{Call, waiting}
 use Rattle.pace.specs.Pace.{micros}
 use Rattle.connector.specs.declared.Completion.{Completion}
+use Rattle.hub.specs.declared.Answer.the-variants as answer
 use Rattle.hub.specs.declared.Hub.{Hub}
-use Rattle.history.specs.Calls.{Call, waiting}
-use Rattle.history.specs.Replay.{Outcome, called, run}
+use Rattle.history.specs.Run.{Outcome, called, run}
 
 -- a moment counted from earlier
 abbrev pub movedBy : ℕ → Completion → Completion
@@ -38,3 +39,12 @@ pub record Composes (r : Reached) (a b : ℕ) : Type 0 where
       → let two = afterwards (at (afterwards (at r (waiting a))) (waiting b)) in
       let one = afterwards (at r (waiting (a + b))) in
       run (two .hub) (two .store) l ≡ run (one .hub) (one .store) l
+
+-- "A wait of 0 changes nothing.": taken, with the hub and the store as they were, nothing complete, and the same said to all later calls
+pub record ChangesNothing (r : Reached) (call : Call) : Type 0 where
+  pub accepted : at r call .step .decided .answer ≡ answer.Taken
+  pub hub : afterwards (at r call) ≡ r
+  pub completions : at r call .completions ≡ []
+  pub later : (l : List Call)
+      → let after = afterwards (at r call) in
+      run (after .hub) (after .store) l ≡ run (r .hub) (r .store) l

@@ -1,1 +1,1 @@
-// What a history of calls means, and that the hub gives it; no code.
+// From a fresh hub, over any calls, the hub says what the calls mean; no code.

@@ -3,6 +3,7 @@ use Prim.Native.Nat.{ℕ, zero, suc}
 use mathlib.Core.Path.{_≡_, refl, sym, ap, _∙_}
 use mathlib.Core.List.{List, [], _∷_, _++_, map, map-append, flatten}
 use lib.ListN.{length, drop}
+use Rattle.meaning.specs.Table.{Call, closing, said}
 use Rattle.lines.specs.declared.Assembler.{Assembler}
 use Rattle.lines.specs.declared.Found.{Found}
 use Rattle.lines.specs.declared.Found.the-variants as found
@@ -13,8 +14,7 @@ use Rattle.lines.specs.Feed as feeding
 use Rattle.lines.proofs.Feeding.{feed-is-lines, fresh-drops}
 use Rattle.hub.specs.declared.Hub.{Hub}
 use Rattle.hub.specs.Record.{freshHub}
-use Rattle.history.specs.Calls.{Call, closing}
-use Rattle.history.specs.Replay.{replay, called, run}
+use Rattle.history.specs.Run.{called, run}
 use Rattle.history.specs.Waiting.{reached}
 use Rattle.history.proofs.Following.{from-fresh}
 use Rattle.served.specs.Served.{Server, server, Served, answering, onward, asks, servedPiece, served, closedBy, closedThen}
@@ -125,10 +125,10 @@ module _ (connection room : ℕ) where
         after = x .after ∙ ap (reached hub store) calls ∙ sym (y .after);
       }
 
-  -- a fresh hub says what the history of the lines means
+  -- a fresh hub says what the lines mean, by the table and the log book
   pub served-from-fresh : (store buffer : List ℕ) → length store ≡ 1560 → length buffer ≡ 4096 → (pieces : List (List ℕ))
       → served connection room pieces (server freshHub store freshAssembler buffer) .said
-      ≡ replay [] (callsOf connection room (flatten pieces))
+      ≡ said [] (callsOf connection room (flatten pieces))
   served-from-fresh store buffer size h pieces =
       served-is-lines freshHub store buffer h pieces .said ∙ from-fresh store size (callsOf connection room (flatten pieces))
 

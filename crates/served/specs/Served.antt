@@ -5,15 +5,15 @@ use Prim.Native.Nat.{ℕ, zero, suc}
 use mathlib.Core.Path.{_≡_}
 use mathlib.Core.List.{List, [], _∷_, _++_, map}
 use lib.ListN.{length, take, drop}
+use Rattle.meaning.specs.Table.{Call, Said}
+use Rattle.meaning.specs.Table as call
 use Rattle.lines.specs.declared.Assembler.{Assembler}
 use Rattle.lines.specs.declared.Found.{Found}
 use Rattle.lines.specs.declared.Found.the-variants as found
 use Rattle.lines.specs.Cut.{Line, whole, overlong, linesOf}
 use Rattle.lines.specs.Take.{Step, freshAssembler, takeStep}
 use Rattle.hub.specs.declared.Hub.{Hub}
-use Rattle.history.specs.Calls.{Call}
-use Rattle.history.specs.Calls as call
-use Rattle.history.specs.Replay.{Said, run}
+use Rattle.history.specs.Run.{run}
 use Rattle.history.specs.Waiting.{Reached, reached}
 
 -- the hub with its store, and the assembler with its buffer

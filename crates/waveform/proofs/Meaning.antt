@@ -1,6 +1,6 @@
 -- What the notions of a transmission say.
 use Prim.Native.Nat.{ℕ, zero, suc, _+_, _-_, _*_, _/_, _%_, _≤_, _<_}
-use mathlib.Core.Path.{_≡_, refl, sym, ap, subst, _∙_}
+use mathlib.Core.Path.{_≡_, refl, sym, ap, _∙_}
 use mathlib.Core.Bool.{Bool, true, false, not}
 use mathlib.Core.List.{List, [], _∷_, _++_}
 use native.Mathlib.Nat.{suc-mul, mul-le-mul-right, mul-div-cancel, div-mul-le-self, lt-div-mul-add}
@@ -13,11 +13,10 @@ use Rattle.meaning.specs.Time.{inTicks, firstMicro, onAt, Transmission, wavefor
 use Rattle.pace.specs.Pace.{SoundPace}
 use Rattle.pace.proofs.Exact.{first-micro}
 use Rattle.pace.proofs.Lasting.{lead-high, tail-high}
-use Rattle.waveform.specs.Meaning.{isEven, renewedAt, InOrder, lastOf, SameStart}
+use Rattle.waveform.specs.Meaning.{isEven, SameStart}
 use Rattle.waveform.proofs.Copies.{waveform-ticks}
 use Rattle.waveform.proofs.Turning.{turned, on-behind}
-use Rattle.waveform.proofs.Paced.{Fit, lead, tail, paceAt, fit-later, fit-renewed, renewed-runs}
-use Rattle.waveform.proofs.Paced.{tail-some, end-is, gone-low, begun-is, under-way}
+use Rattle.waveform.proofs.Paced.{Fit, lead, tail, paceAt, tail-some, end-is, gone-low, begun-is, under-way}
 
 -- ---- the carrier: on in an on count, its start included (y = 0) and its end not
 even-next : (n : ℕ) → isEven (suc n) ≡ not (isEven n)
@@ -151,16 +150,3 @@ pub renewed-total : (s : Transmission) (t : ℕ)
     × SameStart s (renewed s t)
 unfolding total renewed
 renewed-total s t = (refl, record { fields = refl; pairs = refl; start = refl })
-
--- however often it is renewed it is still the one that was started, not complete, and its record is sound
-pub renewed-often : (us : List ℕ) {s : Transmission} {t : ℕ} → Fit s t → complete s t ≡ false → InOrder t us
-    → let r = renewedAt s us in let u = lastOf t us in
-    SameStart s r × Fit r u × (complete r u ≡ false) × SoundPace (paceAt r u)
-renewed-often [] g runs o = (record { fields = refl; pairs = refl; start = refl }, g, runs, pace-sound g runs)
-renewed-often (u ∷ us) {s} {t} g runs o =
-    let e : t + (u - t) ≡ u = omega (arith, o .0) in
-    let h : Fit s u = subst (Fit s) e (fit-later g (u - t)) in
-    let r = renewed-often us (fit-renewed h) (renewed-runs h) (o .1) in
-    let a = renewed-total s u .1 in
-    let b = r .0 in
-    (record { fields = b .fields ∙ a .fields; pairs = b .pairs ∙ a .pairs; start = b .start ∙ a .start }, r .1, r .2, r .3)

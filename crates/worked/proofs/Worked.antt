@@ -15,7 +15,10 @@ use Rattle.request.specs.Address.{partAt, portAt, addressAt, addressFault}
 use Rattle.request.specs.Fields.{capped, sentAt}
 use Rattle.request.specs.Request.{addressed, readRequest}
 use Rattle.writer.specs.CodeText.{codeText}
-use Rattle.meaning.specs.Time.{firstMicro}
+use Rattle.meaning.specs.Line.{isNumber, within, isAddress, isCount, codeIn}
+use Rattle.meaning.specs.Time.{total, done, complete, firstMicro, finish, started}
+use Rattle.meaning.specs.Log.{onAir}
+use Rattle.meaning.specs.Table.{set-IR, getstate, sendir, request}
 use Rattle.pace.specs.Pace.{endOf, passed}
 use Rattle.reply.specs.Reply.{replyText}
 use Rattle.connector.specs.Send.{runOf}
@@ -25,7 +28,7 @@ use Rattle.hub.specs.Wait.{waitedStep}
 use Rattle.worked.specs.Table.{Holds, table}
 
 pub worked : Holds table
-unfolding numberOf numberAt endsField afterComma fieldWithin decimal legal samePair learnt isLetter countAt offAt afterOn spelledAt letterAt begunAt nextPair readCode nameAt partAt portAt addressAt addressFault capped sentAt addressed readRequest codeText endOf firstMicro passed replyText runOf sendStep codeStep sentStep lineStep waitedStep
+unfolding numberOf numberAt endsField afterComma fieldWithin decimal legal samePair learnt isLetter countAt offAt afterOn spelledAt letterAt begunAt nextPair readCode nameAt partAt portAt addressAt addressFault capped sentAt addressed readRequest codeText endOf firstMicro passed replyText isNumber within isAddress isCount codeIn total done complete finish started onAir set-IR getstate sendir request runOf sendStep codeStep sentStep lineStep waitedStep
 worked = (
   (refl, refl),
   (
@@ -44,7 +47,7 @@ worked = (
                 refl,
                 (
                   refl,
-                  ((λ store. refl), ((λ store. refl), ((λ store. refl), ((λ store. refl), ((λ store. refl), ((λ store. refl), tt)))))),
+                  ((λ store. refl), ((λ store. refl), ((λ store. refl), ((λ store. refl), ((λ store. refl), ((λ store. refl), (refl, tt))))))),
                 ),
               ),
             ),

@@ -1,21 +1,20 @@
--- The worked values of document 01 that are marked P. Each row says what is given and what it gives; `Holds` says what a row claims, and
+-- The worked values of document 01 that are marked P, and the bench program's session. Each row says what is given and what it gives; `Holds` says what a row claims, and
 -- proofs/Worked.antt proves it of the whole table.
 use Prim.Native.Nat.{ℕ}
 use Prim.Native.String.{String}
 use mathlib.Core.Path.{_≡_}
 use mathlib.Core.List.{List, [], _∷_, map}
+use mathlib.Core.Option.{none, some}
 use Rattle.laws.specs.Bytes.{bytes}
+use Rattle.meaning.specs.Table.{Answer, taken, replied, Call, line, reading, waiting, Said, said}
 use Rattle.code.specs.declared.limits.Smallest.the-variants.{Count}
 use Rattle.code.specs.Limits.{SmallestCount}
 use Rattle.code.specs.Read.{Reading, pairs, fault, readCode}
 use Rattle.writer.specs.declared.Form.the-variants.{Lettered}
 use Rattle.writer.specs.CodeText.{codeText}
 use Rattle.writer.specs.Given.{pairsOf}
-use Rattle.pace.specs.Pace.{micros}
-use Rattle.connector.specs.declared.Owner.the-variants.{Connection}
 use Rattle.hub.specs.Record.{freshHub}
-use Rattle.history.specs.Calls.{Call, line, waiting}
-use Rattle.history.specs.Replay.{Said, run}
+use Rattle.history.specs.Run.{run}
 
 pub data Row : Type 0 where
   -- counts that are written lettered as this text, and read back, at 40000 Hz
@@ -28,24 +27,32 @@ pub data Row : Type 0 where
   answered : String → String → Row
   -- a line to a fresh hub that is taken, and the completion of connector 1 at the end of a wait of so many microseconds
   completes : String → ℕ → Row
+  -- calls, and what they are told by the table and the log book
+  session : List Call → List Answer → Row
 
--- what is said to calls, from a fresh hub, whatever its store holds
-abbrev pub said : List ℕ → List Call → List Said
-said store calls = run freshHub store calls
+-- what is told to calls, of all that is said
+abbrev pub answers : List Said → List Answer
+answers l = map (λ (s : Said). s .answer) l
 
-abbrev pub from0 : String → Call
-from0 text = line 0 128 (bytes text)
+abbrev pub asks : ℕ → String → Call
+asks connection text = line connection 128 (bytes text)
+
+-- a reply to the asker alone; a completion of connector 1, told its owner
+abbrev pub told : String → Answer
+told text = replied (bytes text) none
+
+abbrev pub completion : ℕ → ℕ → String → Answer
+completion moment owner text = taken (record { moment = moment; owner = some owner; notice = bytes text } ∷ [])
 
 abbrev pub HoldsOf : Row → Type 0
 HoldsOf (lettered counts text) =
     (codeText Lettered (pairsOf counts) ≡ bytes text) × (readCode 40000 (bytes text) 0 ≡ pairs (pairsOf counts))
 HoldsOf (smallest freq count) = SmallestCount freq (Count count)
 HoldsOf (code text gives) = readCode 40000 (bytes text) 0 ≡ gives
-HoldsOf (answered text reply) =
-    (store : List ℕ) → map (λ (s : Said). s .bytes) (said store (from0 text ∷ [])) ≡ (bytes reply ∷ [])
+HoldsOf (answered text reply) = (store : List ℕ) → answers (run freshHub store (asks 0 text ∷ [])) ≡ (told reply ∷ [])
 HoldsOf (completes text n) =
-    (store : List ℕ) → map (λ (s : Said). s .completions) (said store (from0 text ∷ waiting n ∷ []))
-    ≡ ([] ∷ (record { owner = Connection 0; moment = micros n; port = 1; id = 0 } ∷ []) ∷ [])
+    (store : List ℕ) → answers (run freshHub store (asks 0 text ∷ waiting n ∷ [])) ≡ (taken [] ∷ completion n 0 "completeir,1:1,0\r" ∷ [])
+HoldsOf (session calls gives) = answers (said [] calls) ≡ gives
 
 abbrev pub Holds : List Row → Type 0
 Holds [] = Unit
@@ -71,4 +78,24 @@ table =
     ∷ completes "sendir,1:1,0,40000,21,1,24,48" 36000
     -- offset 3 with one pair: 007
     ∷ answered "sendir,1:1,0,40000,1,3,24,48" "ERR_1:1,007\r"
+    -- the bench program's input: "1066 + 984 periods of 25 µs are 51,250 µs"
+    ∷ session
+    (asks 0 "set_IR,1:2,SENSOR"
+    ∷ asks 0 "getstate,1:2"
+    ∷ reading 2 0
+    ∷ asks 0 "getstate,1:2"
+    ∷ asks 1 "sendir,1:1,7,40000,2,3,34,48,24,960"
+    ∷ asks 2 "sendir,1:1,9,40000,1,1,24,960"
+    ∷ waiting 51249
+    ∷ waiting 1
+    ∷ [])
+    (told "IR,1:2,SENSOR\r"
+    ∷ told "ERR_1:2,028\r"
+    ∷ taken []
+    ∷ told "state,1:2,0\r"
+    ∷ taken []
+    ∷ told "busyIR,1:1,9\r"
+    ∷ taken []
+    ∷ completion 1 1 "completeir,1:1,7\r"
+    ∷ [])
     ∷ []

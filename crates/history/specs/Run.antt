@@ -1,38 +1,20 @@
--- All that is said to a list of calls, the first of them first: by the meaning, and by the hub.
+-- All that the hub says to a list of calls, the first of them first, in the meaning's words: a record, its store, and what each call makes
+-- of them.
 use Prim.Native.Nat.{ℕ}
-use mathlib.Core.Bool.{Bool}
 use mathlib.Core.List.{List, [], _∷_}
 use lib.ListN.{take}
+use Rattle.meaning.specs.Table.{Call, line, overlong, reading, closing, waiting, Said}
 use Rattle.connector.specs.declared.Completion.{Completion}
 use Rattle.connector.specs.declared.completions.Completions.{Completions}
-use Rattle.hub.specs.declared.Answer.{Answer}
 use Rattle.hub.specs.declared.Waited.{Waited}
 use Rattle.hub.specs.declared.Hub.{Hub}
 use Rattle.hub.specs.Send.{Step, unchanged}
-use Rattle.hub.specs.Line.{lineStep, overlongStep, bytesOf}
+use Rattle.hub.specs.Line.{lineStep, overlongStep}
 use Rattle.hub.specs.Calls.{readingStep, closedStep, carriersOf}
 use Rattle.hub.specs.Wait.{waitedStep}
-use Rattle.history.specs.Calls.{Call, line, overlong, reading, closing, waiting}
-use Rattle.history.specs.Answers.{answerTo, returned, carriers}
+use Rattle.history.specs.Heard.{answerOut}
 
--- what one call gives: its answer or refusal, the bytes of its reply, the completions, and each connector's carrier after it
-pub record Said : Type 0 where
-  pub answer : Answer
-  pub bytes : List ℕ
-  pub completions : List Completion
-  pub carriers : List Bool
-
-abbrev pub saidOf : Answer → List Completion → List Bool → Said
-saidOf a completions carriers = record { answer = a; bytes = bytesOf a; completions = completions; carriers = carriers }
-
--- ---- by the meaning, after a history
-
-abbrev pub replay : List Call → List Call → List Said
-replay h [] = []
-replay h (call ∷ l) = saidOf (answerTo h call) (returned h call) (carriers (call ∷ h)) ∷ replay (call ∷ h) l
-
--- ---- by the hub: a record, its store, and what each call makes of them
-
+-- what one call makes: its answer, the hub and the store after it, and the completions of a wait
 pub record Outcome : Type 0 where
   pub step : Step
   pub completions : List Completion
@@ -53,9 +35,16 @@ called hub store (reading port value) = plain (unchanged (readingStep hub port v
 called hub store (closing connection) = plain (unchanged (closedStep hub connection) store)
 called hub store (waiting n) = waited (waitedStep hub n) store
 
+-- what is heard of it: its answer, and each connector's carrier after it
+abbrev pub saidBy : Outcome → Said
+saidBy o =
+    record {
+      answer = answerOut (o .step .decided .answer) (o .completions);
+      carriers = carriersOf (o .step .decided .hub) (o .step .store);
+    }
+
 abbrev pub run : Hub → List ℕ → List Call → List Said
 run hub store [] = []
 run hub store (call ∷ l) =
     let o = called hub store call in
-    saidOf (o .step .decided .answer) (o .completions) (carriersOf (o .step .decided .hub) (o .step .store))
-    ∷ run (o .step .decided .hub) (o .step .store) l
+    saidBy o ∷ run (o .step .decided .hub) (o .step .store) l

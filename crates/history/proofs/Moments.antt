@@ -1,0 +1,34 @@
+-- The moments of every transmission in the log of a history: its completion, and the copies begun.
+use Prim.Native.Nat.{ℕ, suc, _-_, _≤_, _<_}
+use mathlib.Core.Path.{_≡_, subst}
+use mathlib.Core.Bool.{true, false}
+use mathlib.Core.List.{List}
+use mathlib.Core.Option.{some}
+use Rattle.meaning.specs.Time.{inTicks, Transmission, waveform, lasts, done, complete, finish, begun}
+use Rattle.meaning.specs.Log.{now, lastOf}
+use Rattle.meaning.specs.Table.{Call, logOf}
+use Rattle.waveform.proofs.Paced.{Fit}
+use Rattle.waveform.proofs.Meaning.{finish-first, begun-copies, begun-boundary}
+use Rattle.history.proofs.Shown.{FitFor}
+use Rattle.history.proofs.Logged.{logged-fit}
+
+module _ (h : List Call) (port : ℕ) (s : Transmission) (e : lastOf port (logOf h) ≡ some s) where
+  abbrev t : ℕ
+  t = now (logOf h)
+
+  fit : Fit s t
+  fit = subst (FitFor t) e (logged-fit h port)
+
+  -- its completion is at the first whole microsecond at which the fraction reaches the total, and at no earlier one
+  pub completion-first : complete s t ≡ false
+      → (t < finish s) × (complete s (finish s) ≡ true) × ((u : ℕ) → s .start ≤ u → complete s u ≡ true → finish s ≤ u)
+  completion-first runs = finish-first fit runs
+
+  -- of the copies begun, the one before the last is finished, and the last is not
+  pub copies-begun : (inTicks (lasts (waveform (s .fields) (s .pairs) (begun s t - 1))) ≤ done s t)
+      × (done s t < inTicks (lasts (waveform (s .fields) (s .pairs) (begun s t))))
+  copies-begun = begun-copies fit
+
+  -- at an exact boundary the next copy has begun
+  pub boundary-begun : (n : ℕ) → 1 ≤ n → done s t ≡ inTicks (lasts (waveform (s .fields) (s .pairs) n)) → begun s t ≡ suc n
+  boundary-begun = begun-boundary fit

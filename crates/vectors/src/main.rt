@@ -212,20 +212,27 @@ fn both_forms() {
     );
 }
 
-// The smallest legal count for a frequency; of a refusal its number, and apart.
+fn say_smallest(refused: bool, number: u64) {
+    if refused {
+        say(b"refusal ");
+    }
+    say_number(number);
+}
+
+// The smallest legal count for a frequency, or the number of its refusal.
 fn smallest_vector(freq: u64, refused: bool, expected: u64) {
     say(b"smallest count at ");
     say_number(freq);
     say(b": expected ");
-    say_number(expected);
+    say_smallest(refused, expected);
     say(b", got ");
     match code::limits::smallest_count(freq) {
         Smallest::Refused(number) => {
-            say_number(number);
+            say_smallest(true, number);
             say_verdict(refused && number == expected);
         }
         Smallest::Count(count) => {
-            say_number(count);
+            say_smallest(false, count);
             say_verdict(!refused && count == expected);
         }
     }

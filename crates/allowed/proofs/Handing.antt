@@ -1,35 +1,24 @@
 -- reader: a code's text handed out pair by pair. An outcome of `next` is what is handed out, and the reader after it.
-use Prim.Native.Nat.{ℕ}
-use mathlib.Core.Path.{_≡_, ap, _∙_}
-use mathlib.Core.List.{List}
-use denote.Ref.{RefT}
-use Rattle.reader.specs.declared.CodeText.{CodeText}
-use Rattle.reader.specs.declared.Progress.{Progress}
-use Rattle.reader.specs.declared.Handed.{Handed}
-use Rattle.reader.specs.Hands.{textAt, movedTo, freshProgress, handed, handedBy}
+use mathlib.Core.Path.{refl, sym, _∙_, ap}
+use Rattle.reader.proofs as reader
+use Rattle.reader.specs.Hands.{movedTo}
 use Rattle.allowed.specs.Allowed.{One}
-use Rattle.allowed.proofs.Law.{one, one-and}
+use Rattle.allowed.proofs.Law.{promised, told, both}
 
 -- reader::Progress::fresh
-pub reader-fresh : (freq : ℕ) → One (λ (r : Progress). r ≡ freshProgress freq)
-reader-fresh freq = one (freshProgress freq)
-
--- reader::next_from
-pub reader-next-from : (progress : Progress) (s : List ℕ) (at : ℕ) → One (λ (r : Handed). r ≡ handed progress s at)
-reader-next-from progress s at = one (handed progress s at)
+pub reader-fresh : One reader.Progress.fresh.ended (λ _. reader.Progress.fresh.spec)
+reader-fresh = told _ refl (λ _ _ _ _. refl)
 
 -- reader::hand_out
-pub reader-hand-out : (progress : Progress) (s : List ℕ) (at : ℕ) → One (λ (r : Handed). r ≡ handed progress s at)
-reader-hand-out progress s at = one (handed progress s at)
+pub reader-hand-out : One reader.hand_out.ended (λ _. reader.hand_out.spec)
+reader-hand-out = told _ refl (λ _ _ _ _. refl)
 
 -- reader::CodeText::of
-pub reader-of : (text : RefT (List ℕ)) (at : ℕ) → One (λ (r : CodeText). r ≡ textAt text at)
-reader-of text at = one (textAt text at)
+pub reader-of : One reader.CodeText.of.ended (λ _. reader.CodeText.of.spec)
+reader-of = told _ refl (λ _ _ _ _. refl)
 
 -- reader::CodeText::next
-pub reader-next : (progress : Progress) (before : CodeText)
-    → One (λ (o : Handed × CodeText). (o .0 ≡ handedBy progress before) × (o .1 ≡ movedTo before (o .0 .at)))
-reader-next progress before a b p q =
-    one-and (handedBy progress before) (movedTo before (handedBy progress before .at)) a b
-    (p .0, p .1 ∙ ap (λ (r : Handed). movedTo before (r .at)) (p .0))
-    (q .0, q .1 ∙ ap (λ (r : Handed). movedTo before (r .at)) (q .0))
+pub reader-next : One reader.CodeText.next.ended (λ _. reader.CodeText.next.spec)
+reader-next = promised _ refl (λ _ given _ _ _ _ p q.
+    let same = p .0 ∙ sym (q .0) in
+    (same, both (p .1 ∙ ap (λ r. movedTo (given .0 .now) (r .at)) same ∙ sym (q .1)) refl))

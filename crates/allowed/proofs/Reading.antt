@@ -1,141 +1,92 @@
 -- text, code and request: what is read.
-use Prim.Native.Nat.{ℕ}
-use mathlib.Core.Path.{_≡_}
-use mathlib.Core.Bool.{Bool}
-use mathlib.Core.List.{List}
-use lib.ListN.{getD, drop, length}
-use Rattle.text.specs.declared.field.Field.{Field}
-use Rattle.text.specs.declared.number.Number.{Number}
-use Rattle.words.specs.Digits.{isDigit}
-use Rattle.text.specs.Number.{numberAt}
-use Rattle.text.specs.Field.{endsField, afterComma, fieldIs, fieldWithin}
-use Rattle.words.specs.declared.Pair.{Pair}
-use Rattle.code.specs.declared.Code.{Code}
-use Rattle.code.specs.declared.letters.Letters.{Letters}
-use Rattle.code.specs.declared.next.Next.{Next}
-use Rattle.code.specs.declared.next.After.{After}
-use Rattle.words.specs.Pairs.{samePair}
-use Rattle.code.specs.Letters.{noLetters, placeOf, held, Learns, learntLetters}
-use Rattle.code.specs.Limits.{legal, SmallestCount}
-use Rattle.code.specs.Next.{isLetter, nextPair}
-use Rattle.code.specs.Read.{readCode, codeOf}
+use mathlib.Core.Path.{refl, sym, _∙_}
+use Rattle.text.proofs as text
+use Rattle.code.proofs as code
+use Rattle.request.proofs as request
 use Rattle.code.proofs.Smallest.{one-smallest}
-use Rattle.request.specs.declared.Request.{Request}
-use Rattle.request.specs.declared.address.Address.{Address}
-use Rattle.request.specs.declared.fields.Sent.{Sent}
-use Rattle.request.specs.declared.mode.Mode.{Mode}
-use Rattle.request.specs.declared.mode.ModeRead.{ModeRead}
-use Rattle.request.specs.declared.name.Name.{Name}
-use Rattle.request.specs.declared.name.NameRead.{NameRead}
-use Rattle.request.specs.Address.{addressAt, hasModule, addressFault}
-use Rattle.request.specs.Fields.{capped, sentAt}
-use Rattle.request.specs.Mode.{modeAt, mayHave}
-use Rattle.request.specs.Name.{nameAt, nameOf}
-use Rattle.request.specs.Request.{readRequest}
 use Rattle.allowed.specs.Allowed.{One}
-use Rattle.allowed.proofs.Law.{one}
+use Rattle.allowed.proofs.Law.{promised, told}
 
 -- text::number::is_digit
-pub text-is-digit : (b : ℕ) → One (λ (r : Bool). r ≡ isDigit b)
-text-is-digit b = one (isDigit b)
+pub text-is-digit : One text.number.is_digit.ended (λ _. text.number.is_digit.spec)
+text-is-digit = told _ refl (λ _ _ _ _. refl)
 
 -- text::number::number_at
-pub text-number-at : (s : List ℕ) (at : ℕ) → One (λ (r : Number). r ≡ numberAt s at)
-text-number-at s at = one (numberAt s at)
+pub text-number-at : One text.number.number_at.ended (λ _. text.number.number_at.spec)
+text-number-at = told _ refl (λ _ _ _ _. refl)
 
 -- text::field::byte_at
-pub text-byte-at : (s : List ℕ) (at : ℕ) → One (λ (r : ℕ). r ≡ getD s at 0)
-text-byte-at s at = one (getD s at 0)
+pub text-byte-at : One text.field.byte_at.ended (λ _. text.field.byte_at.spec)
+text-byte-at = told _ refl (λ _ _ _ _. refl)
 
 -- text::field::ends_field
-pub text-ends-field : (s : List ℕ) (at : ℕ) → One (λ (r : Bool). r ≡ endsField s at)
-text-ends-field s at = one (endsField s at)
+pub text-ends-field : One text.field.ends_field.ended (λ _. text.field.ends_field.spec)
+text-ends-field = told _ refl (λ _ _ _ _. refl)
 
 -- text::field::after_comma
-pub text-after-comma : (s : List ℕ) (at : ℕ) → One (λ (r : ℕ). r ≡ afterComma s at)
-text-after-comma s at = one (afterComma s at)
+pub text-after-comma : One text.field.after_comma.ended (λ _. text.field.after_comma.spec)
+text-after-comma = told _ refl (λ _ _ _ _. refl)
 
 -- text::field::field_is
-pub text-field-is : (s : List ℕ) (at : ℕ) (w : List ℕ) → One (λ (r : Bool). r ≡ fieldIs w (drop at s))
-text-field-is s at w = one (fieldIs w (drop at s))
+pub text-field-is : One text.field.field_is.ended (λ _. text.field.field_is.spec)
+text-field-is = told _ refl (λ _ _ _ _. refl)
 
 -- text::field::field_within
-pub text-field-within : (s : List ℕ) (at least most : ℕ) → One (λ (r : Field). r ≡ fieldWithin least most s at)
-text-field-within s at least most = one (fieldWithin least most s at)
+pub text-field-within : One text.field.field_within.ended (λ _. text.field.field_within.spec)
+text-field-within = told _ refl (λ _ _ _ _. refl)
 
 -- code::letters::Letters::none
-pub code-letters-none : One (λ (r : Letters). r ≡ noLetters)
-code-letters-none = one noLetters
+pub code-letters-none : One code.letters.Letters.none.ended (λ _. code.letters.Letters.none.spec)
+code-letters-none = told _ refl (λ _ _ _ _. refl)
 
 -- code::letters::same
-pub code-same : (p q : Pair) → One (λ (r : Bool). r ≡ samePair p q)
-code-same p q = one (samePair p q)
+pub code-same : One code.letters.same.ended (λ _. code.letters.same.spec)
+code-same = told _ refl (λ _ _ _ _. refl)
 
 -- code::letters::place_of
-pub code-place-of : (letters : Letters) (p : Pair) → One (λ (r : ℕ). r ≡ placeOf p (held letters))
-code-place-of letters p = one (placeOf p (held letters))
+pub code-place-of : One code.letters.place_of.ended (λ _. code.letters.place_of.spec)
+code-place-of = told _ refl (λ _ _ _ _. refl)
 
 -- code::letters::learn
-pub code-learn : (letters : Letters) (p : Pair) → One (Learns letters p)
-code-learn letters p a b x y = one (learntLetters letters p) a b (x .result) (y .result)
+pub code-learn : One code.letters.learn.ended (λ _. code.letters.learn.spec)
+code-learn = promised _ refl (λ _ _ _ _ _ _ p q. (p .result ∙ sym (q .result), refl))
 
 -- code::limits::is_legal
-pub code-is-legal : (freq count : ℕ) → One (λ (r : Bool). r ≡ legal freq count)
-code-is-legal freq count = one (legal freq count)
+pub code-is-legal : One code.limits.is_legal.ended (λ _. code.limits.is_legal.spec)
+code-is-legal = told _ refl (λ _ _ _ _. refl)
 
 -- code::limits::smallest_count: its promise is a property, and allows one answer all the same
-pub code-smallest-count : (freq : ℕ) → One (SmallestCount freq)
-code-smallest-count freq = one-smallest freq
+pub code-smallest-count : One code.limits.smallest_count.ended (λ _. code.limits.smallest_count.spec)
+code-smallest-count = promised _ refl (λ _ given r r′ _ _ p q. (one-smallest (given .0) r r′ p q, refl))
 
 -- code::next::is_letter
-pub code-is-letter : (b : ℕ) → One (λ (r : Bool). r ≡ isLetter b)
-code-is-letter b = one (isLetter b)
+pub code-is-letter : One code.next.is_letter.ended (λ _. code.next.is_letter.spec)
+code-is-letter = told _ refl (λ _ _ _ _. refl)
 
 -- code::next::next_pair
-pub code-next-pair : (freq pairs letters : ℕ) (after : After) (s : List ℕ) (at : ℕ)
-    → One (λ (r : Next). r ≡ nextPair freq pairs letters after s at)
-code-next-pair freq pairs letters after s at = one (nextPair freq pairs letters after s at)
+pub code-next-pair : One code.next.next_pair.ended (λ _. code.next.next_pair.spec)
+code-next-pair = told _ refl (λ _ _ _ _. refl)
 
 -- code::read::read_code
-pub code-read-code : (freq : ℕ) (s : List ℕ) (start : ℕ) → One (λ (r : Code). r ≡ codeOf (readCode freq s start))
-code-read-code freq s start = one (codeOf (readCode freq s start))
-
--- request::address::address_at
-pub request-address-at : (s : List ℕ) (at : ℕ) → One (λ (r : Address). r ≡ addressAt s at)
-request-address-at s at = one (addressAt s at)
-
--- request::address::has_module
-pub request-has-module : (name : Name) (m : ℕ) → One (λ (r : Bool). r ≡ hasModule name m)
-request-has-module name m = one (hasModule name m)
-
--- request::address::address_fault
-pub request-address-fault : (name : Name) (m port : ℕ) → One (λ (r : ℕ). r ≡ addressFault name m port)
-request-address-fault name m port = one (addressFault name m port)
+pub code-read-code : One code.read.read_code.ended (λ _. code.read.read_code.spec)
+code-read-code = told _ refl (λ _ _ _ _. refl)
 
 -- request::fields::capped
-pub request-capped : (repeat : ℕ) → One (λ (r : ℕ). r ≡ capped repeat)
-request-capped repeat = one (capped repeat)
+pub request-capped : One request.fields.capped.ended (λ _. request.fields.capped.spec)
+request-capped = told _ refl (λ _ _ _ _. refl)
 
 -- request::fields::sent_at
-pub request-sent-at : (s : List ℕ) (at : ℕ) → One (λ (r : Sent). r ≡ sentAt s at)
-request-sent-at s at = one (sentAt s at)
+pub request-sent-at : One request.fields.sent_at.ended (λ _. request.fields.sent_at.spec)
+request-sent-at = told _ refl (λ _ _ _ _. refl)
 
 -- request::mode::mode_at
-pub request-mode-at : (s : List ℕ) (at : ℕ) → One (λ (r : ModeRead). r ≡ modeAt s at)
-request-mode-at s at = one (modeAt s at)
+pub request-mode-at : One request.mode.mode_at.ended (λ _. request.mode.mode_at.spec)
+request-mode-at = told _ refl (λ _ _ _ _. refl)
 
 -- request::mode::may_have
-pub request-may-have : (port : ℕ) (mode : Mode) → One (λ (r : Bool). r ≡ mayHave port mode)
-request-may-have port mode = one (mayHave port mode)
-
--- request::name::name_at
-pub request-name-at : (s : List ℕ) → One (λ (r : NameRead). r ≡ nameAt s)
-request-name-at s = one (nameAt s)
-
--- request::name::name_end
-pub request-name-end : (name : Name) → One (λ (r : ℕ). r ≡ length (nameOf name))
-request-name-end name = one (length (nameOf name))
+pub request-may-have : One request.mode.may_have.ended (λ _. request.mode.may_have.spec)
+request-may-have = told _ refl (λ _ _ _ _. refl)
 
 -- request::read::read_request
-pub request-read-request : (s : List ℕ) → One (λ (r : Request). r ≡ readRequest s)
-request-read-request s = one (readRequest s)
+pub request-read-request : One request.read.read_request.ended (λ _. request.read.read_request.spec)
+request-read-request = told _ refl (λ _ _ _ _. refl)

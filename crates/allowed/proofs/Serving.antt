@@ -1,65 +1,40 @@
 -- hub: the calls. An outcome of a line is the answer with the hub, the store and the reply buffer.
-use Prim.Native.Nat.{ℕ}
-use mathlib.Core.Path.{_≡_}
-use mathlib.Core.Bool.{Bool, cond}
-use mathlib.Core.List.{List}
-use lib.Dec.{ltb}
-use lib.ListN.{length}
-use lib.Seq.{sets}
-use Rattle.connector.specs.declared.Completion.{Completion}
-use Rattle.hub.specs.declared.Answered.{Answered}
-use Rattle.hub.specs.declared.Decided.{Decided}
-use Rattle.hub.specs.declared.Hub.{Hub}
-use Rattle.hub.specs.declared.Waited.{Waited}
-use Rattle.hub.specs.declared.Written.{Written}
-use Rattle.hub.specs.declared.Written.the-variants.{Refused, Line}
-use Rattle.hub.specs.Record.{freshHub}
-use Rattle.hub.specs.Line.{bytesOf, answeredOf, Writes, Answers, lineStep, overlongStep}
-use Rattle.hub.specs.Calls.{readingStep, closedStep, carriersOf, completionText, CompletionWritten}
-use Rattle.hub.specs.Wait.{waitedStep}
+use mathlib.Core.Path.{refl, sym, _∙_}
+use Rattle.hub.proofs as hub
 use Rattle.allowed.specs.Allowed.{One}
-use Rattle.allowed.proofs.Law.{one, one-and}
+use Rattle.allowed.proofs.Law.{promised, told, both}
 
 -- hub::Hub::fresh
-pub hub-fresh : One (λ (r : Hub). r ≡ freshHub)
-hub-fresh = one freshHub
-
-writes : (d : Decided) (before : List ℕ) → One (λ (o : Answered × List ℕ). Writes d before (o .0) (o .1))
-writes d before a b p q =
-    one-and (answeredOf d) (sets before 0 (bytesOf (d .answer))) a b (p .result, p .laid) (q .result, q .laid)
+pub hub-fresh : One hub.Hub.fresh.ended (λ _. hub.Hub.fresh.spec)
+hub-fresh = told _ refl (λ _ _ _ _. refl)
 
 -- hub::line::line
-pub hub-line : (hub : Hub) (store : List ℕ) (connection : ℕ) (text before : List ℕ)
-    → One (λ (o : (Answered × List ℕ) × List ℕ).
-    Answers (lineStep hub store connection text (length before)) before (o .0 .0) (o .1) (o .0 .1))
-hub-line hub store connection text before a b p q =
-    let step = lineStep hub store connection text (length before) in
-    λ i. (writes (step .decided) before (a .0) (b .0) (p .writes) (q .writes) i, one (step .store) (a .1) (b .1) (p .kept) (q .kept) i)
+pub hub-line : One hub.line.line.ended (λ _. hub.line.line.spec)
+hub-line = promised _ refl (λ _ _ _ _ _ _ p q. (
+  p .writes .result ∙ sym (q .writes .result),
+  both refl (both (p .kept ∙ sym (q .kept)) (both refl (both refl (both (p .writes .laid ∙ sym (q .writes .laid)) refl)))),
+))
 
 -- hub::line::overlong_line
-pub hub-overlong-line : (hub : Hub) (connection : ℕ) (before : List ℕ)
-    → One (λ (o : Answered × List ℕ). Writes (overlongStep hub connection (length before)) before (o .0) (o .1))
-hub-overlong-line hub connection before = writes (overlongStep hub connection (length before)) before
+pub hub-overlong-line : One hub.line.overlong_line.ended (λ _. hub.line.overlong_line.spec)
+hub-overlong-line = promised _ refl (λ _ _ _ _ _ _ p q. (p .result ∙ sym (q .result), both refl (both refl (both (p .laid ∙ sym (q .laid)) refl))))
 
 -- hub::calls::reading
-pub hub-reading : (hub : Hub) (port value : ℕ) → One (λ (r : Decided). r ≡ readingStep hub port value)
-hub-reading hub port value = one (readingStep hub port value)
+pub hub-reading : One hub.calls.reading.ended (λ _. hub.calls.reading.spec)
+hub-reading = told _ refl (λ _ _ _ _. refl)
 
 -- hub::calls::closed
-pub hub-closed : (hub : Hub) (connection : ℕ) → One (λ (r : Decided). r ≡ closedStep hub connection)
-hub-closed hub connection = one (closedStep hub connection)
+pub hub-closed : One hub.calls.closed.ended (λ _. hub.calls.closed.spec)
+hub-closed = told _ refl (λ _ _ _ _. refl)
 
 -- hub::calls::carriers
-pub hub-carriers : (hub : Hub) (store : List ℕ) → One (λ (r : List Bool). r ≡ carriersOf hub store)
-hub-carriers hub store = one (carriersOf hub store)
+pub hub-carriers : One hub.calls.carriers.ended (λ _. hub.calls.carriers.spec)
+hub-carriers = told _ refl (λ _ _ _ _. refl)
 
 -- hub::calls::write_completion
-pub hub-write-completion : (c : Completion) (before : List ℕ)
-    → One (λ (o : Written × List ℕ). CompletionWritten c before (o .0) (o .1))
-hub-write-completion c before a b p q =
-    one-and (cond (ltb (length before) 128) (Refused 101) (Line (length (completionText c))))
-    (cond (ltb (length before) 128) before (sets before 0 (completionText c))) a b (p .result, p .laid) (q .result, q .laid)
+pub hub-write-completion : One hub.calls.write_completion.ended (λ _. hub.calls.write_completion.spec)
+hub-write-completion = promised _ refl (λ _ _ _ _ _ _ p q. (p .result ∙ sym (q .result), both refl (both (p .laid ∙ sym (q .laid)) refl)))
 
 -- hub::wait::wait
-pub hub-wait : (hub : Hub) (n : ℕ) → One (λ (r : Waited). r ≡ waitedStep hub n)
-hub-wait hub n = one (waitedStep hub n)
+pub hub-wait : One hub.wait.wait.ended (λ _. hub.wait.wait.spec)
+hub-wait = told _ refl (λ _ _ _ _. refl)

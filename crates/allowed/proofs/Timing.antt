@@ -1,154 +1,123 @@
 -- pace, store and connector: time, the pairs that are sent, and one connector.
-use Prim.Native.Nat.{ℕ, _*_}
-use mathlib.Core.Path.{_≡_}
-use mathlib.Core.Bool.{Bool, true}
-use mathlib.Core.List.{List, []}
-use lib.ListN.{take, drop}
-use lib.Seq.{sets}
-use Rattle.words.specs.declared.Pair.{Pair}
-use Rattle.words.specs.declared.Fields.{Fields}
-use Rattle.request.specs.declared.mode.Mode.{Mode}
-use Rattle.pace.specs.declared.Periods.{Periods}
-use Rattle.pace.specs.declared.Micros.{Micros}
-use Rattle.pace.specs.declared.Ticks.{Ticks}
-use Rattle.pace.specs.declared.Pace.{Pace}
-use Rattle.pace.specs.declared.Passed.{Passed}
-use Rattle.pace.specs.Pace as pace
-use Rattle.meaning.specs.Time.{countsOf, onAt}
-use Rattle.store.specs.Store.{slotCounts, alike}
-use Rattle.connector.specs.declared.Owner.{Owner}
-use Rattle.connector.specs.declared.Run.{Run}
-use Rattle.connector.specs.declared.Sending.{Sending}
-use Rattle.connector.specs.declared.Connector.{Connector}
-use Rattle.connector.specs.declared.completions.Completions.{Completions}
-use Rattle.connector.specs.declared.judge.Verdict.{Verdict}
-use Rattle.connector.specs.declared.pass.ConnectorPassed.{ConnectorPassed}
-use Rattle.connector.specs.declared.pass.Done.{Done}
-use Rattle.connector.specs.Record.{freshConnector}
-use Rattle.connector.specs.Change as change
-use Rattle.connector.specs.Send.{transmitsNot, runOf, verdictOf}
-use Rattle.connector.specs.Pass.{passedConnector}
-use Rattle.connector.specs.Carrier.{carrierOf}
-use Rattle.connector.specs.Completions.{completionsOf, joinedIn}
+use mathlib.Core.Path.{refl, sym, _∙_}
+use Rattle.pace.proofs as pace
+use Rattle.store.proofs as store
+use Rattle.connector.proofs as connector
 use Rattle.allowed.specs.Allowed.{One}
-use Rattle.allowed.proofs.Law.{one}
+use Rattle.allowed.proofs.Law.{promised, told, both}
 
 -- pace::periods_of
-pub pace-periods-of : (pairs : List Pair) (from to : ℕ)
-    → One (λ (r : Periods). r ≡ pace.periods (pace.periodsOf (drop from (take to pairs))))
-pace-periods-of pairs from to = one (pace.periods (pace.periodsOf (drop from (take to pairs))))
+pub pace-periods-of : One pace.periods_of.ended (λ _. pace.periods_of.spec)
+pace-periods-of = told _ refl (λ _ _ _ _. refl)
 
 -- pace::Pace::started
-pub pace-started : (lead tail : Periods) (repeat : ℕ) → One (λ (r : Pace). r ≡ pace.started lead tail repeat)
-pace-started lead tail repeat = one (pace.started lead tail repeat)
+pub pace-started : One pace.Pace.started.ended (λ _. pace.Pace.started.spec)
+pace-started = told _ refl (λ _ _ _ _. refl)
 
 -- pace::Pace::end
-pub pace-end : (self : Pace) → One (λ (r : Ticks). r ≡ pace.ticks (pace.endOf self))
-pace-end self = one (pace.ticks (pace.endOf self))
+pub pace-end : One pace.Pace.end.ended (λ _. pace.Pace.end.spec)
+pace-end = told _ refl (λ _ _ _ _. refl)
 
 -- pace::Pace::begun
-pub pace-begun : (self : Pace) → One (λ (r : ℕ). r ≡ pace.begun self)
-pace-begun self = one (pace.begun self)
+pub pace-begun : One pace.Pace.begun.ended (λ _. pace.Pace.begun.spec)
+pace-begun = told _ refl (λ _ _ _ _. refl)
 
 -- pace::Pace::renewed
-pub pace-renewed : (self : Pace) (repeat : ℕ) → One (λ (r : Pace). r ≡ pace.renewed self repeat)
-pace-renewed self repeat = one (pace.renewed self repeat)
+pub pace-renewed : One pace.Pace.renewed.ended (λ _. pace.Pace.renewed.spec)
+pace-renewed = told _ refl (λ _ _ _ _. refl)
 
 -- pace::Pace::place
-pub pace-place : (self : Pace) → One (λ (r : Ticks). r ≡ pace.ticks (pace.placeOf self))
-pace-place self = one (pace.ticks (pace.placeOf self))
+pub pace-place : One pace.Pace.place.ended (λ _. pace.Pace.place.spec)
+pace-place = told _ refl (λ _ _ _ _. refl)
 
 -- pace::Pace::passed
-pub pace-passed : (self : Pace) (freq : ℕ) (wait : Micros) → One (λ (r : Passed). r ≡ pace.passed self freq (wait .0))
-pace-passed self freq wait = one (pace.passed self freq (wait .0))
+pub pace-passed : One pace.Pace.passed.ended (λ _. pace.Pace.passed.spec)
+pace-passed = told _ refl (λ _ _ _ _. refl)
 
 -- store::keep
-pub store-keep : (before : List ℕ) (slot : ℕ) (pairs : List Pair) (count : ℕ)
-    → One (λ (after : List ℕ). after ≡ sets before (slot * 520) (countsOf (take count pairs)))
-store-keep before slot pairs count = one (sets before (slot * 520) (countsOf (take count pairs)))
+pub store-keep : One store.keep.ended (λ _. store.keep.spec)
+store-keep = promised _ refl (λ _ _ _ _ _ _ p q. (refl, both (p ∙ sym q) refl))
 
 -- store::same
-pub store-same : (store : List ℕ) (slot : ℕ) (pairs : List Pair) (count : ℕ)
-    → One (λ (r : Bool). r ≡ alike (slotCounts store slot count) (countsOf (take count pairs)))
-store-same store slot pairs count = one (alike (slotCounts store slot count) (countsOf (take count pairs)))
+pub store-same : One store.same.ended (λ _. store.same.spec)
+store-same = told _ refl (λ _ _ _ _. refl)
 
 -- store::carrier
-pub store-carrier : (store : List ℕ) (slot count place : ℕ) → One (λ (r : Bool). r ≡ onAt true (slotCounts store slot count) place)
-store-carrier store slot count place = one (onAt true (slotCounts store slot count) place)
+pub store-carrier : One store.carrier.ended (λ _. store.carrier.spec)
+store-carrier = told _ refl (λ _ _ _ _. refl)
 
 -- connector::Connector::fresh
-pub connector-fresh : One (λ (r : Connector). r ≡ freshConnector)
-connector-fresh = one freshConnector
+pub connector-fresh : One connector.Connector.fresh.ended (λ _. connector.Connector.fresh.spec)
+connector-fresh = told _ refl (λ _ _ _ _. refl)
 
 -- connector::change::transmits_not
-pub connector-transmits-not : (mode : Mode) → One (λ (r : Bool). r ≡ transmitsNot mode)
-connector-transmits-not mode = one (transmitsNot mode)
+pub connector-transmits-not : One connector.change.transmits_not.ended (λ _. connector.change.transmits_not.spec)
+connector-transmits-not = told _ refl (λ _ _ _ _. refl)
 
 -- connector::change::is_running
-pub connector-is-running : (sending : Sending) → One (λ (r : Bool). r ≡ change.isRunning sending)
-connector-is-running sending = one (change.isRunning sending)
+pub connector-is-running : One connector.change.is_running.ended (λ _. connector.change.is_running.spec)
+connector-is-running = told _ refl (λ _ _ _ _. refl)
 
 -- connector::change::with_mode
-pub connector-with-mode : (c : Connector) (mode : Mode) → One (λ (r : Connector). r ≡ change.withMode c mode)
-connector-with-mode c mode = one (change.withMode c mode)
+pub connector-with-mode : One connector.change.with_mode.ended (λ _. connector.change.with_mode.spec)
+connector-with-mode = told _ refl (λ _ _ _ _. refl)
 
 -- connector::change::with_reading
-pub connector-with-reading : (c : Connector) (value : ℕ) → One (λ (r : Connector). r ≡ change.withReading c value)
-connector-with-reading c value = one (change.withReading c value)
+pub connector-with-reading : One connector.change.with_reading.ended (λ _. connector.change.with_reading.spec)
+connector-with-reading = told _ refl (λ _ _ _ _. refl)
 
 -- connector::change::started
-pub connector-started : (c : Connector) (connection : ℕ) (run : Run) → One (λ (r : Connector). r ≡ change.started c connection run)
-connector-started c connection run = one (change.started c connection run)
+pub connector-started : One connector.change.started.ended (λ _. connector.change.started.spec)
+connector-started = told _ refl (λ _ _ _ _. refl)
 
 -- connector::change::renewed
-pub connector-renewed : (c : Connector) → One (λ (r : Connector). r ≡ change.renewed c)
-connector-renewed c = one (change.renewed c)
+pub connector-renewed : One connector.change.renewed.ended (λ _. connector.change.renewed.spec)
+connector-renewed = told _ refl (λ _ _ _ _. refl)
 
 -- connector::change::stopped
-pub connector-stopped : (c : Connector) → One (λ (r : Connector). r ≡ change.stopped c)
-connector-stopped c = one (change.stopped c)
+pub connector-stopped : One connector.change.stopped.ended (λ _. connector.change.stopped.spec)
+connector-stopped = told _ refl (λ _ _ _ _. refl)
 
 -- connector::change::owns
-pub connector-owns : (owner : Owner) (connection : ℕ) → One (λ (r : Bool). r ≡ change.owns owner connection)
-connector-owns owner connection = one (change.owns owner connection)
+pub connector-owns : One connector.change.owns.ended (λ _. connector.change.owns.spec)
+connector-owns = told _ refl (λ _ _ _ _. refl)
 
 -- connector::change::told_of
-pub connector-told-of : (owner : Owner) (connection : ℕ) → One (λ (r : Owner). r ≡ change.toldOf owner connection)
-connector-told-of owner connection = one (change.toldOf owner connection)
+pub connector-told-of : One connector.change.told_of.ended (λ _. connector.change.told_of.spec)
+connector-told-of = told _ refl (λ _ _ _ _. refl)
 
 -- connector::change::same_fields
-pub connector-same-fields : (a b : Fields) → One (λ (r : Bool). r ≡ change.sameFields a b)
-connector-same-fields a b = one (change.sameFields a b)
+pub connector-same-fields : One connector.change.same_fields.ended (λ _. connector.change.same_fields.spec)
+connector-same-fields = told _ refl (λ _ _ _ _. refl)
 
 -- connector::judge::judge
-pub connector-judge : (store : List ℕ) (slot : ℕ) (c : Connector) (connection : ℕ) (f : Fields) (pairs : List Pair) (count : ℕ)
-    → One (λ (r : Verdict). r ≡ verdictOf store slot c connection f (take count pairs))
-connector-judge store slot c connection f pairs count = one (verdictOf store slot c connection f (take count pairs))
+pub connector-judge : One connector.judge.judge.ended (λ _. connector.judge.judge.spec)
+connector-judge = told _ refl (λ _ _ _ _. refl)
 
 -- connector::judge::run_of
-pub connector-run-of : (f : Fields) (pairs : List Pair) (count : ℕ) → One (λ (r : Run). r ≡ runOf f (take count pairs))
-connector-run-of f pairs count = one (runOf f (take count pairs))
+pub connector-run-of : One connector.judge.run_of.ended (λ _. connector.judge.run_of.spec)
+connector-run-of = told _ refl (λ _ _ _ _. refl)
 
 -- connector::pass::pass
-pub connector-pass : (c : Connector) (port : ℕ) (wait : Micros) → One (λ (r : ConnectorPassed). r ≡ passedConnector c port (wait .0))
-connector-pass c port wait = one (passedConnector c port (wait .0))
+pub connector-pass : One connector.pass.pass.ended (λ _. connector.pass.pass.spec)
+connector-pass = told _ refl (λ _ _ _ _. refl)
 
 -- connector::carrier::carrier_of
-pub connector-carrier-of : (store : List ℕ) (slot : ℕ) (c : Connector) → One (λ (r : Bool). r ≡ carrierOf store slot (c .sending))
-connector-carrier-of store slot c = one (carrierOf store slot (c .sending))
+pub connector-carrier-of : One connector.carrier.carrier_of.ended (λ _. connector.carrier.carrier_of.spec)
+connector-carrier-of = told _ refl (λ _ _ _ _. refl)
 
 -- connector::completions::Completions::none
-pub connector-no-completions : One (λ (r : Completions). r ≡ completionsOf [])
-connector-no-completions = one (completionsOf [])
+pub connector-no-completions : One connector.completions.Completions.none.ended (λ _. connector.completions.Completions.none.spec)
+connector-no-completions = told _ refl (λ _ _ _ _. refl)
 
 -- connector::completions::Completions::joined
-pub connector-joined : (self : Completions) (done : Done) → One (λ (r : Completions). r ≡ joinedIn self done)
-connector-joined self done = one (joinedIn self done)
+pub connector-joined : One connector.completions.Completions.joined.ended (λ _. connector.completions.Completions.joined.spec)
+connector-joined = told _ refl (λ _ _ _ _. refl)
 
 -- connector::closing::disown: the lent record
-pub connector-disown : (before : Connector) (connection : ℕ) → One (λ (after : Connector). after ≡ change.disowned before connection)
-connector-disown before connection = one (change.disowned before connection)
+pub connector-disown : One connector.closing.disown.ended (λ _. connector.closing.disown.spec)
+connector-disown = promised _ refl (λ _ _ _ _ _ _ p q. (refl, both (p ∙ sym q) refl))
 
 -- connector::closing::disowned
-pub connector-disowned : (c : Connector) (connection : ℕ) → One (λ (r : Connector). r ≡ change.disowned c connection)
-connector-disowned c connection = one (change.disowned c connection)
+pub connector-disowned : One connector.closing.disowned.ended (λ _. connector.closing.disowned.spec)
+connector-disowned = told _ refl (λ _ _ _ _. refl)

@@ -1,76 +1,32 @@
 -- text, writer, reply and lines: what is written into lent memory. An outcome is the result and the memory after it.
-use Prim.Native.Nat.{ℕ, _+_}
-use mathlib.Core.Path.{_≡_}
-use mathlib.Core.Bool.{Bool}
-use mathlib.Core.List.{List}
-use lib.ListN.{length, take}
-use lib.Seq.{sets}
-use Rattle.laws.specs.Put.{Put}
-use Rattle.words.specs.Decimal.{decimal}
-use Rattle.words.specs.declared.Pair.{Pair}
-use Rattle.code.specs.declared.Code.{Code}
-use Rattle.code.specs.Read.{codeOf}
-use Rattle.words.specs.declared.Fields.{Fields}
-use Rattle.writer.specs.declared.Form.{Form}
-use Rattle.writer.specs.declared.sendir.Command.{Command}
-use Rattle.writer.specs.declared.sendir.Written.{Written}
-use Rattle.writer.specs.CodeText.{codeText}
-use Rattle.writer.specs.Given.{addressWithin, fieldsWithin, countsGiven}
-use Rattle.writer.specs.Sendir.{outcome, answerOf, bytesOf, Wrote}
-use Rattle.reply.specs.declared.Reply.{Reply}
-use Rattle.reply.specs.Reply.{replyText}
-use Rattle.lines.specs.declared.Assembler.{Assembler}
-use Rattle.lines.specs.declared.Taken.{Taken}
-use Rattle.lines.specs.Take.{freshAssembler, takeStep, Takes}
+use mathlib.Core.Path.{refl, sym, _∙_}
+use Rattle.text.proofs as text
+use Rattle.writer.proofs as writer
+use Rattle.reply.proofs as reply
+use Rattle.lines.proofs as lines
 use Rattle.allowed.specs.Allowed.{One}
-use Rattle.allowed.proofs.Law.{one, one-and}
-
--- text laid over a buffer, with the place behind it
-put : (before : List ℕ) (at : ℕ) (text : List ℕ) → One (λ (o : ℕ × List ℕ). Put before at text (o .1) (o .0))
-put before at text a b p q =
-    one-and (at + length text) (sets before at text) a b (p .place, p .laid) (q .place, q .laid)
+use Rattle.allowed.proofs.Law.{promised, told, both}
 
 -- text::write::put_word
-pub text-put-word : (before : List ℕ) (at : ℕ) (w : List ℕ) → One (λ (o : ℕ × List ℕ). Put before at w (o .1) (o .0))
-text-put-word before at w = put before at w
+pub text-put-word : One text.write.put_word.ended (λ _. text.write.put_word.spec)
+text-put-word = promised _ refl (λ _ _ _ _ _ _ p q. (p .place ∙ sym (q .place), both (p .laid ∙ sym (q .laid)) refl))
 
 -- text::write::put_number
-pub text-put-number : (before : List ℕ) (at n : ℕ) → One (λ (o : ℕ × List ℕ). Put before at (decimal n) (o .1) (o .0))
-text-put-number before at n = put before at (decimal n)
-
--- writer::codetext::put_code
-pub writer-put-code : (before : List ℕ) (at : ℕ) (form : Form) (count : ℕ) (pairs : List Pair)
-    → One (λ (o : ℕ × List ℕ). Put before at (codeText form (take count pairs)) (o .1) (o .0))
-writer-put-code before at form count pairs = put before at (codeText form (take count pairs))
-
--- writer::given::address_within
-pub writer-address-within : (m port : ℕ) → One (λ (r : Bool). r ≡ addressWithin m port)
-writer-address-within m port = one (addressWithin m port)
-
--- writer::given::fields_within
-pub writer-fields-within : (f : Fields) → One (λ (r : Bool). r ≡ fieldsWithin f)
-writer-fields-within f = one (fieldsWithin f)
-
--- writer::given::counts_given
-pub writer-counts-given : (freq : ℕ) (counts : List ℕ) → One (λ (r : Code). r ≡ codeOf (countsGiven freq counts))
-writer-counts-given freq counts = one (codeOf (countsGiven freq counts))
+pub text-put-number : One text.write.put_number.ended (λ _. text.write.put_number.spec)
+text-put-number = promised _ refl (λ _ _ _ _ _ _ p q. (p .place ∙ sym (q .place), both (p .laid ∙ sym (q .laid)) refl))
 
 -- writer::sendir::write_sendir
-pub writer-write-sendir : (before : List ℕ) (form : Form) (c : Command) (counts : List ℕ)
-    → One (λ (o : Written × List ℕ). Wrote before form c counts (o .1) (o .0))
-writer-write-sendir before form c counts a b p q =
-    let said = outcome (length before) form c counts in
-    one-and (answerOf said) (sets before 0 (bytesOf said)) a b (p .answer, p .laid) (q .answer, q .laid)
+pub writer-write-sendir : One writer.sendir.write_sendir.ended (λ _. writer.sendir.write_sendir.spec)
+writer-write-sendir = promised _ refl (λ _ _ _ _ _ _ p q. (p .answer ∙ sym (q .answer), both (p .laid ∙ sym (q .laid)) refl))
 
 -- reply::put_reply
-pub reply-put-reply : (before : List ℕ) (reply : Reply) → One (λ (o : ℕ × List ℕ). Put before 0 (replyText reply) (o .1) (o .0))
-reply-put-reply before reply = put before 0 (replyText reply)
+pub reply-put-reply : One reply.put_reply.ended (λ _. reply.put_reply.spec)
+reply-put-reply = promised _ refl (λ _ _ _ _ _ _ p q. (p .place ∙ sym (q .place), both (p .laid ∙ sym (q .laid)) refl))
 
 -- lines::Assembler::fresh
-pub lines-fresh : One (λ (r : Assembler). r ≡ freshAssembler)
-lines-fresh = one freshAssembler
+pub lines-fresh : One lines.Assembler.fresh.ended (λ _. lines.Assembler.fresh.spec)
+lines-fresh = told _ refl (λ _ _ _ _. refl)
 
 -- lines::Assembler::take
-pub lines-take : (self : Assembler) (before piece : List ℕ) → One (λ (o : Taken × List ℕ). Takes (takeStep self before piece) (o .0) (o .1))
-lines-take self before piece a b p q =
-    one-and (takeStep self before piece .taken) (takeStep self before piece .buffer) a b (p .result, p .laid) (q .result, q .laid)
+pub lines-take : One lines.Assembler.take.ended (λ _. lines.Assembler.take.spec)
+lines-take = promised _ refl (λ _ _ _ _ _ _ p q. (p .result ∙ sym (q .result), both refl (both (p .laid ∙ sym (q .laid)) refl)))

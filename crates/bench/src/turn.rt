@@ -9,6 +9,7 @@ use hub::Decided;
 use hub::Hub;
 use hub::Owner;
 use hub::Written;
+use pace::Micros;
 ghost use Rattle.hub.specs.Record.{SoundHub};
 
 // The state behind a line: the hub and what is to be written, and nothing of the line.
@@ -129,7 +130,7 @@ fn wait_turn(hub: Hub, micros: u64, out: &mut [u8], used: usize) -> State
     requires { ⌜ SoundHub hub ⌝ }
     ensures { λ r. ⌜ SoundHub (r .hub) ⌝ }
 {
-    let waited = hub::wait::wait(hub, micros);
+    let waited = hub::wait::wait(hub, Micros(micros));
     let decided = waited.decided;
     let completions = waited.completions;
     let answer = decided.answer;

@@ -10,7 +10,7 @@ use Rattle.laws.proofs.Choice.{cond-case, by-test, not-both}
 use Rattle.words.specs.Digits.{isDigit}
 use Rattle.text.specs.Number.{numberAt}
 use Rattle.text.specs.declared.number.Number.{Number}
-use Rattle.text.specs.declared.number.Number.the-variants.{Missing, Value}
+use Rattle.text.specs.declared.number.Number.the-variants.{Missing, TooLong, Value}
 use Rattle.code.specs.declared.next.Count.{Count}
 use Rattle.code.specs.declared.next.Count.the-variants.{Bad, Good}
 use Rattle.code.specs.declared.next.Next.{Next}
@@ -48,6 +48,7 @@ module _ (freq n m : ℕ) (after : After) (s : List ℕ) where
     where
       go : (x : Number) → SoundCount freq (judged freq x)
       go Missing = tt
+      go (TooLong next) = tt
       go (Value v next) = cond-case (SoundCount freq) (legal freq v) (Good v next) Bad (λ e. e) (λ e. tt)
 
   off-sound : (on at : ℕ) → n < 260 → legal freq on ≡ true → Sound freq n m after (offAt freq on s at)

@@ -9,7 +9,7 @@ use Rattle.laws.specs.Checks.{_⇒_, first}
 use Rattle.words.specs.Digits.{isDigit}
 use Rattle.text.specs.Number.{numberAt}
 use Rattle.text.specs.declared.number.Number.{Number}
-use Rattle.text.specs.declared.number.Number.the-variants.{Missing, Value}
+use Rattle.text.specs.declared.number.Number.the-variants.{Missing, TooLong, Value}
 use Rattle.code.specs.declared.next.Count.{Count}
 use Rattle.code.specs.declared.next.Count.the-variants.{Bad, Good}
 use Rattle.code.specs.declared.next.Next.{Next}
@@ -25,6 +25,7 @@ isLetter b = cond (ltb b 65) false (leb b 90)
 -- a number that is a legal count, and the place behind it
 abbrev pub judged : ℕ → Number → Count
 judged freq Missing = Bad
+judged freq (TooLong next) = Bad
 judged freq (Value v next) = cond (legal freq v) (Good v next) Bad
 
 unfoldable pub countAt : ℕ → List ℕ → ℕ → Count

@@ -41,6 +41,7 @@ fn count_at(freq: u64, s: &[u8], at: usize) -> Count
 {
     match text::number::number_at(s, at) {
         Number::Missing => Count::Bad,
+        Number::TooLong(_) => Count::Bad,
         Number::Value(value, next) => {
             if crate::limits::is_legal(freq, value) {
                 Count::Good(value as u16, next)

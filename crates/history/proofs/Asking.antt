@@ -7,8 +7,8 @@ use mathlib.Core.Option.{Option, none, some}
 use native.Mathlib.Omega.{arith}
 use lib.Dec.{eqb}
 use lib.ListN.{length}
-use lib.Seq.{sets, length-sets}
 use borrow.Author.Tests.{ltb-true}
+use Rattle.laws.specs.Put.{storedIn}
 use Rattle.laws.proofs.Choice.{by-test, cond-case}
 use Rattle.words.specs.declared.Pair.{Pair}
 use Rattle.code.specs.Limits.{offsetWithin}
@@ -23,7 +23,7 @@ use Rattle.request.specs.declared.Request.the-variants as request
 use Rattle.request.specs.Accepted.{PortWithin, FieldsWithin, SentWithin, Within}
 use Rattle.reply.specs.declared.Reply.the-variants as reply
 use Rattle.meaning.specs.Time.{countsOf, Transmission, started, renewed}
-use Rattle.store.proofs.Kept.{kept, others-kept}
+use Rattle.store.proofs.Kept.{kept-size, kept, others-kept}
 use Rattle.waveform.proofs.Paced.{Fit, started-runs, renewed-runs}
 use Rattle.connector.specs.declared.Owner.the-variants.{Nobody, Connection}
 use Rattle.connector.specs.declared.Contact.{Contact}
@@ -140,12 +140,12 @@ module _ (t : ℕ) (K : ℕ → Known) (R : ℕ → ℕ) (fit : (p : ℕ) → Fi
     abbrev After : Answer → Step → Type 0
     After a step = Means t a (changedAt t K R g port) R step
 
-    here : HeldIn (sets store ((port - 1) * 520) (countsOf ps)) (port - 1) (some (started f ps t))
+    here : HeldIn (storedIn store ((port - 1) * 520) (countsOf ps)) (port - 1) (some (started f ps t))
     unfolding started
     here = kept store (port - 1) ps (omega (arith, w .least, w .most)) (st .size) (l .counts .most)
 
     other-held : (p : ℕ) → PortWithin p → (p ≡ port → ⊥) → (o : Option Transmission) → FitFor t o
-        → HeldIn store (p - 1) o → HeldIn (sets store ((port - 1) * 520) (countsOf ps)) (p - 1) o
+        → HeldIn store (p - 1) o → HeldIn (storedIn store ((port - 1) * 520) (countsOf ps)) (p - 1) o
     other-held p v d none q k = tt
     other-held p v d (some s) q k =
         others-kept store (port - 1) ps (omega (arith, w .least, w .most)) (st .size) (l .counts .most) (p - 1)
@@ -153,7 +153,7 @@ module _ (t : ℕ) (K : ℕ → Known) (R : ℕ → ℕ) (fit : (p : ℕ) → Fi
         ∙ k
 
     others : (p : ℕ) → PortWithin p → (p ≡ port → ⊥)
-        → HeldIn (sets store ((port - 1) * 520) (countsOf ps)) (p - 1) (onAir t (K p .sending))
+        → HeldIn (storedIn store ((port - 1) * 520) (countsOf ps)) (p - 1) (onAir t (K p .sending))
     others p v d =
         other-held p v d (onAir t (K p .sending))
         (fit-on-air t (K p .sending) (fit p)) (st .held p v)
@@ -164,7 +164,7 @@ module _ (t : ℕ) (K : ℕ → Known) (R : ℕ → ℕ) (fit : (p : ℕ) → Fi
         (record {
           decided = decidedAs answer.Taken
               (withConnector hub (port - 1) (change.started (shown t x) connection (runOf f ps)));
-          store = sets store ((port - 1) * 520) (countsOf ps);
+          store = storedIn store ((port - 1) * 520) (countsOf ps);
         })
     starts e =
         record {
@@ -172,8 +172,8 @@ module _ (t : ℕ) (K : ℕ → Known) (R : ℕ → ℕ) (fit : (p : ℕ) → Fi
           hub = put-hub t K R g port w _
               (rw e (sym (started-shown t connection x f ps (l .fields) (l .counts) (l .offset))));
           stored = record {
-            size = length-sets store ((port - 1) * 520) (countsOf ps) ∙ st .size;
-            held = changed-held t K R g (sets store ((port - 1) * 520) (countsOf ps)) port
+            size = kept-size store (port - 1) ps (omega (arith, w .least, w .most)) (st .size) (l .counts .most);
+            held = changed-held t K R g (storedIn store ((port - 1) * 520) (countsOf ps)) port
                 (rw (e, started-runs f ps t (l .fields) (l .counts) (l .offset)) here)
                 others;
           };

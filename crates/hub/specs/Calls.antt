@@ -5,8 +5,8 @@ use mathlib.Core.Bool.{Bool, cond, not}
 use mathlib.Core.List.{List, [], _∷_}
 use lib.Dec.{ltb}
 use lib.ListN.{length}
-use lib.Seq.{sets}
 use Rattle.laws.specs.Checks.{_⇒_, first}
+use Rattle.laws.specs.Put.{over}
 use Rattle.reply.specs.declared.Reply.the-variants.{Complete}
 use Rattle.reply.specs.Reply.{replyText}
 use Rattle.connector.specs.declared.Completion.{Completion}
@@ -57,4 +57,4 @@ completionText c = replyText (Complete (c .port) (c .id))
 
 pub record CompletionWritten (c : Completion) (before : List ℕ) (r : Written) (after : List ℕ) : Type 0 where
   pub result : r ≡ cond (ltb (length before) 128) (Refused 101) (Line (length (completionText c)))
-  pub laid : after ≡ cond (ltb (length before) 128) before (sets before 0 (completionText c))
+  pub laid : after ≡ cond (ltb (length before) 128) before (over before 0 (completionText c))

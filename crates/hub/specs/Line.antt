@@ -7,8 +7,8 @@ use mathlib.Core.Bool.{cond, not}
 use mathlib.Core.List.{List, [], _∷_}
 use lib.Dec.{ltb}
 use lib.ListN.{length}
-use lib.Seq.{sets}
 use Rattle.laws.specs.Checks.{_⇒_, first}
+use Rattle.laws.specs.Put.{over}
 use Rattle.request.specs.declared.mode.Mode.{Mode}
 use Rattle.request.specs.declared.Request.{Request}
 use Rattle.request.specs.declared.Request.the-variants as request
@@ -105,7 +105,7 @@ refusedCall h number = record { decided = decidedAs (answer.Refused number) h; s
 
 pub record Writes (d : Decided) (before : List ℕ) (r : Answered) (after : List ℕ) : Type 0 where
   pub result : r ≡ answeredOf d
-  pub laid : after ≡ sets before 0 (bytesOf (d .answer))
+  pub laid : after ≡ over before 0 (bytesOf (d .answer))
 
 pub record Answers (step : Step) (before : List ℕ) (r : Answered) (store after : List ℕ) : Type 0 where
   pub writes : Writes (step .decided) before r after

@@ -4,7 +4,7 @@ use mathlib.Core.Path.{_≡_}
 use mathlib.Core.Bool.{cond}
 use mathlib.Core.List.{List}
 use lib.ListN.{length}
-use lib.Seq.{sets}
+use Rattle.laws.specs.Put.{storedIn}
 use Rattle.words.specs.declared.Pair.{Pair}
 use Rattle.code.specs.Limits.{offsetWithin}
 use Rattle.code.specs.Read.{Reading, pairs, fault, readCode}
@@ -48,7 +48,7 @@ abbrev pub byVerdict : Hub → List ℕ → ℕ → ℕ → Fields → List Pair
 byVerdict h store connection port f ps verdict.Start =
     record {
       decided = decidedAs answer.Taken (withConnector h (port - 1) (started (connectorAt h (port - 1)) connection (runOf f ps)));
-      store = sets store ((port - 1) * 520) (countsOf ps);
+      store = storedIn store ((port - 1) * 520) (countsOf ps);
     }
 byVerdict h store connection port f ps verdict.Renew =
     unchanged (decidedAs answer.Taken (withConnector h (port - 1) (renewed (connectorAt h (port - 1))))) store

@@ -11,7 +11,6 @@ use reply::Reply;
 use request::fields::Sent;
 use words::Fields;
 use words::Pair;
-ghost use mathlib.Core.Path.{_≡_};
 ghost use Prim.Native.Nat.{_*_, _≤_, _<_};
 ghost use lib.ListN.{take};
 ghost use Rattle.request.specs.Accepted.{PortWithin, FieldsWithin, SentWithin};

@@ -10,20 +10,20 @@ ghost use Rattle.hub.specs.Record.{SoundHub};
 ghost use Rattle.hub.specs.Wait.{waitedStep};
 
 // A wait of some microseconds.
-pub fn wait(hub: Hub, n: u64) -> Waited
+pub fn wait(hub: Hub, n: Micros) -> Waited
     requires { ⌜ SoundHub hub ⌝ }
-    ensures { λ r. ⌜ r ≡ waitedStep hub n ⌝ }
+    ensures { λ r. ⌜ r ≡ waitedStep hub (n .0) ⌝ }
 {
-    if Hub::MOST_WAIT < n {
+    if Hub::MOST_WAIT < n.0 {
         let decided = crate::unchanged::refused(hub, 103);
         return Waited {
             decided,
             completions: Completions::none(),
         };
     }
-    let a = connector::pass::pass(hub.connectors[0], 1, Micros(n));
-    let b = connector::pass::pass(hub.connectors[1], 2, Micros(n));
-    let c = connector::pass::pass(hub.connectors[2], 3, Micros(n));
+    let a = connector::pass::pass(hub.connectors[0], 1, n);
+    let b = connector::pass::pass(hub.connectors[1], 2, n);
+    let c = connector::pass::pass(hub.connectors[2], 3, n);
     let first = a.done;
     let second = b.done;
     let third = c.done;

@@ -17,8 +17,12 @@ pub by-test : {A : Type 0} (t : Bool) → (t ≡ true → A) → (t ≡ false �
 by-test true f g = f refl
 by-test false f g = g refl
 
+-- from two constructors that are told to be the same
+pub clash : {A : Type 0} → _≡_ {A = ℕ} 0 1 → A
+clash e = absurd (omega arith)
+
 pub not-both : {A : Type 0} {t : Bool} → t ≡ true → t ≡ false → A
-not-both e f = let z : _≡_ {A = ℕ} 0 1 = cc in absurd (omega arith)
+not-both e f = clash (cc)
 
 -- a check that did not refuse, and those behind it
 pub guard : (t x : Bool) → cond t false x ≡ true → (t ≡ false) × (x ≡ true)

@@ -6,7 +6,7 @@ use mathlib.Core.Bool.{Bool, true, false}
 use native.Mathlib.Nat.{add-zero, add-suc, suc-add}
 use native.Mathlib.Numerals.{add-one}
 use native.Mathlib.Omega.{arith}
-use borrow.Author.Tests.{eqb-true}
+use borrow.Author.Tests.{eq-eqb, eqb-true}
 use lib.Dec.{eqb}
 use lib.ListN.{length, take, drop, getD, set, length-drop, drop-of-length-le}
 use lib.Seq.{drop-cons, drop-drop, drop-append-seam, getD-drop, getD-take, length-take-le, sets}
@@ -92,6 +92,10 @@ same-is [] (b ∷ l) e = not-both e refl
 same-is (a ∷ w) [] e = not-both e refl
 same-is (a ∷ w) (b ∷ l) e =
     rw (eqb-true b a (and-left (eqb b a) (same w l) e), same-is w l (and-right (eqb b a) (same w l) e))
+
+pub same-self : (a : List ℕ) → same a a ≡ true
+same-self [] = refl
+same-self (a ∷ w) = and-true (eqb a a) (same w w) (eq-eqb a a refl) (same-self w)
 
 pub none-is : {A : Type 0} (l : List A) → length l ≡ 0 → l ≡ []
 none-is [] e = refl

@@ -1,10 +1,11 @@
 -- An order of checks, as document 01 writes one: a list of tests, each with its answer, of which the first that holds
 -- is taken, and the answer where none does.
 use Prim.Native.Nat.{ℕ}
-use mathlib.Core.Bool.{Bool, true, false, cond, _&&_}
+use mathlib.Core.Path.{_≡_}
+use mathlib.Core.Bool.{Bool, true, false, cond, _&&_, _||_}
 use mathlib.Core.List.{List, [], _∷_}
 use mathlib.Core.Option.{Option, none, some}
-use lib.Dec.{leb}
+use lib.Dec.{leb, eqb}
 
 pub record Check (A : Type 0) : Type 0 where
   pub test : Bool
@@ -18,6 +19,12 @@ abbrev pub first : {A : Type 0} → List (Check A) → A → A
 first [] other = other
 first (k ∷ ks) other = cond (k .test) (k .gives) (first ks other)
 
+-- the first check that holds gives this answer, and those before it do not hold; or none holds, and it is the other
+pub data FirstThat {A : Type 0} : List (Check A) → A → A → Type 0 where
+  holding : {k : Check A} {ks : List (Check A)} {other : A} → k .test ≡ true → FirstThat (k ∷ ks) other (k .gives)
+  failing : {k : Check A} {ks : List (Check A)} {other a : A} → k .test ≡ false → FirstThat ks other a → FirstThat (k ∷ ks) other a
+  otherwise : {other : A} → FirstThat [] other other
+
 -- ---- tests
 
 abbrev pub between : ℕ → ℕ → ℕ → Bool
@@ -30,3 +37,8 @@ holds test (some x) = test x
 
 abbrev pub isSome : {A : Type 0} → Option A → Bool
 isSome o = holds (λ x. true) o
+
+-- whether a number is one of a list
+abbrev pub oneOf : List ℕ → ℕ → Bool
+oneOf [] n = false
+oneOf (x ∷ l) n = eqb n x || oneOf l n

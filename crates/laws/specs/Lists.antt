@@ -1,6 +1,6 @@
 -- Parts of lists that the library does not name.
 use Prim.Native.Nat.{ℕ, zero, suc}
-use mathlib.Core.Bool.{Bool, true, false, cond, _&&_}
+use mathlib.Core.Bool.{Bool, true, false, cond, not, _&&_}
 use mathlib.Core.List.{List, [], _∷_, _++_}
 use lib.Dec.{eqb}
 use lib.ListN.{getD}
@@ -47,3 +47,13 @@ abbrev pub behind : ℕ → ℕ → List ℕ → List ℕ
 behind c zero s = s
 behind c (suc k) [] = []
 behind c (suc k) (b ∷ s) = cond (eqb b c) (behind c k s) (behind c (suc k) s)
+
+-- parts with c between them
+abbrev pub joined : ℕ → List (List ℕ) → List ℕ
+joined c [] = []
+joined c (w ∷ []) = w
+joined c (w ∷ v ∷ parts) = w ++ (c ∷ joined c (v ∷ parts))
+
+-- whether a list has no c
+abbrev pub free : ℕ → List ℕ → Bool
+free c w = all (λ b. not (eqb b c)) w

@@ -34,7 +34,8 @@ same-self : (p : Pair) → samePair p p ≡ true
 unfolding samePair
 same-self p = rw (eq-eqb (p .on) (p .on) refl, eq-eqb (p .off) (p .off) refl)
 
-place-within : (t : List Pair) (i : ℕ) → i < length t → placeOf (getD t i (pair 0 0)) t < length t
+-- a pair that stands in a list is found in it
+pub place-within : (t : List Pair) (i : ℕ) → i < length t → placeOf (getD t i (pair 0 0)) t < length t
 place-within [] i h = absurd (omega arith)
 place-within (q ∷ t) zero h = rw (same-self q) (omega arith)
 place-within (q ∷ t) (suc i) h =

@@ -3,4 +3,5 @@ pub mod Learnt
 pub mod Written
 pub mod ItemsRead
 pub mod Shown
+pub mod Parsed
 pub mod Exactly

@@ -6,14 +6,16 @@ use mathlib.Core.List.{List, [], _∷_, _++_, map, map-append, flatten}
 use native.Mathlib.Omega.{arith}
 use lib.Dec.{leb}
 use lib.ListN.{length, take, drop, length-append, length-drop, take-append-drop}
-use lib.Seq.{sets, length-sets, take-length}
+use lib.Seq.{length-sets, take-length}
 use borrow.Author.Tests.{leb-true, leb-false}
 use Rattle.laws.proofs.Choice.{by-test}
+use Rattle.laws.proofs.Put.{over-front}
 use Rattle.lines.specs.declared.Assembler.{Assembler}
 use Rattle.lines.specs.Cut.{divided, lineOf, linesOf}
+use Rattle.laws.specs.Put.{storedIn}
 use Rattle.lines.specs.Take.{assembler, freshAssembler, counted, foundOf, untilCr, Step, takeStep}
 use Rattle.lines.specs.Feed.{Fed, fed, lineIn, called, onward, fedPiece, feed}
-use Rattle.lines.proofs.Storing.{take-sets}
+use Rattle.laws.proofs.Storing.{stored-whole, stores-stored}
 use Rattle.lines.proofs.Taking.{counted-few, counted-many, counted-on}
 use Rattle.lines.proofs.Keeps.{take-case, used-some}
 use Rattle.lines.proofs.Cutting.{divided-append, divided-ended, divided-unfinished}
@@ -28,15 +30,15 @@ holds-fresh : (buffer : List ℕ) → length buffer ≡ 4096 → Holds freshAsse
 holds-fresh buffer h = record { count = sym (counted-few 0 (omega arith)); room = h; bytes = λ k. refl }
 
 holds-more : {a : Assembler} {buffer begun : List ℕ} → Holds a buffer begun → (body : List ℕ)
-    → Holds (assembler (counted (a .size + length body))) (sets buffer (a .size) body) (begun ++ body)
+    → Holds (assembler (counted (a .size + length body))) (storedIn buffer (a .size) body) (begun ++ body)
 holds-more {a} {buffer} {begun} h body =
     record {
       count = rw (h .count, counted-on, length-append);
-      room = length-sets buffer (a .size) body ∙ h .room;
+      room = ap length (sym (stores-stored buffer (a .size) body)) ∙ length-sets buffer (a .size) body ∙ h .room;
       bytes = λ k.
           let l : length begun + length body ≤ length buffer = omega (arith, h .room, length-append begun body) in
           let e : a .size ≡ length begun = h .count ∙ counted-few (length begun) (omega (arith, h .room)) in
-          rw (length-append, e, take-sets body buffer (length begun) l, h .bytes (omega (arith, h .room)));
+          rw (length-append, e, stored-whole buffer (length begun) body l, over-front buffer (length begun) body (omega arith), h .bytes (omega (arith, h .room)));
     }
 
 line-found : {a : Assembler} {buffer line : List ℕ} → Holds a buffer line → lineIn buffer (foundOf (a .size) true) ≡ lineOf line ∷ []

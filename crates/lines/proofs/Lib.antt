@@ -1,4 +1,3 @@
-pub mod Storing
 pub mod Taking
 pub mod Keeps
 pub mod Cutting

@@ -16,7 +16,7 @@ use Rattle.lines.specs.Take.{assembler, freshAssembler, counted, foundOf
 use Rattle.lines.specs.declared.Assembler.{Assembler}
 use Rattle.lines.specs.declared.Found.{Found}
 use Rattle.lines.specs.declared.Found.the-variants.{Nothing, Line, Overlong, Refused}
-use Rattle.lines.proofs.Storing.{sets-out}
+use Rattle.laws.proofs.Storing.{sets-out, stores-stored}
 
 -- ---- how bytes are counted
 pub counted-few : (n : ℕ) → n ≤ 4096 → counted n ≡ n
@@ -83,7 +83,13 @@ refused a buffer piece h = rw (ne-eqb (length buffer) 4096 h)
 pub from-start : (a : Assembler) (buffer piece : List ℕ) → length buffer ≡ 4096
     → takeStep a buffer piece ≡ stepFrom 0 (a .size) buffer piece
 unfolding takeStep stepFrom
-from-start a buffer piece h = rw (eq-eqb (length buffer) 4096 h, zero-add, zero-add)
+from-start a buffer piece h = rw (
+  eq-eqb (length buffer) 4096 h,
+  zero-add,
+  zero-add,
+  ← stores-stored buffer (a .size) (untilCr piece),
+  ← stores-stored buffer (a .size) piece,
+)
 
 -- the bytes behind one more
 sets-counted : (vs buffer : List ℕ) (size b : ℕ) → length buffer ≡ 4096

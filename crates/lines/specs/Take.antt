@@ -1,15 +1,16 @@
 -- The record of an assembler, and a call: the bytes of a piece up to and with its first CR. Document 01: "An assembler joins pieces of a
 -- connection's stream into lines", "107 an assembler buffer that is not 4,096 bytes", "Bytes of a lent buffer after what is written keep
--- their contents."
+-- their contents." The bytes of an unfinished line are only in the buffer, so while there is one each call wants the buffer as the call
+-- before left it.
 use Prim.Native.Nat.{ℕ, suc, _+_, _≤_}
 use mathlib.Core.Path.{_≡_}
 use mathlib.Core.Bool.{Bool, true, false, cond, not}
 use mathlib.Core.List.{List, [], _∷_}
 use lib.Dec.{eqb, leb, ltb}
-use lib.ListN.{length}
-use lib.Seq.{sets}
+use lib.ListN.{length, take}
 use Rattle.laws.specs.Checks.{_⇒_, first}
 use Rattle.laws.specs.Lists.{leading}
+use Rattle.laws.specs.Put.{storedIn}
 use Rattle.lines.specs.declared.Assembler.{Assembler}
 use Rattle.lines.specs.declared.Found.{Found}
 use Rattle.lines.specs.declared.Found.the-variants.{Nothing, Line, Overlong, Refused}
@@ -47,14 +48,14 @@ pub record Step : Type 0 where
 abbrev pub stepOf : Assembler → ℕ → Found → List ℕ → Step
 stepOf a used found buffer = record { taken = record { assembler = a; used = used; found = found }; buffer = buffer }
 
--- bytes that go behind those that there are, as far as the buffer has room, with a CR behind them or without one yet
+-- bytes that go behind those that there are, with a CR behind them or without one yet
 abbrev pub endedStep : Assembler → List ℕ → List ℕ → Step
 endedStep a buffer bytes =
-    stepOf freshAssembler (suc (length bytes)) (foundOf (counted (a .size + length bytes)) true) (sets buffer (a .size) bytes)
+    stepOf freshAssembler (suc (length bytes)) (foundOf (counted (a .size + length bytes)) true) (storedIn buffer (a .size) bytes)
 
 abbrev pub unfinishedStep : Assembler → List ℕ → List ℕ → Step
 unfinishedStep a buffer bytes =
-    stepOf (assembler (counted (a .size + length bytes))) (length bytes) Nothing (sets buffer (a .size) bytes)
+    stepOf (assembler (counted (a .size + length bytes))) (length bytes) Nothing (storedIn buffer (a .size) bytes)
 
 unfoldable pub takeStep : Assembler → List ℕ → List ℕ → Step
 takeStep a buffer piece = first

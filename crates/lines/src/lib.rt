@@ -5,7 +5,8 @@ ghost use Prim.Native.Nat.{suc};
 ghost use lib.ListN.{length, set};
 ghost use Rattle.lines.specs.Take.{freshAssembler, SoundAssembler, counted, foundOf, takeStep, Takes};
 
-// How many bytes of an unfinished line there are; one byte more than has room stands for any more.
+// How many bytes of an unfinished line there are; one byte more than has room stands for any more. The bytes themselves are only in
+// the buffer: while a line is unfinished, each call wants the buffer of the call before, untouched.
 pub struct Assembler {
     pub size: usize,
 }
@@ -67,7 +68,8 @@ impl Assembler {
         Assembler { size: 0 }
     }
 
-    // Takes the bytes of a piece up to and with its first CR.
+    // Takes the bytes of a piece up to and with its first CR. The buffer is the one that the call before left, untouched, unless the
+    // assembler is fresh; a line that is found stands in it until the next call.
     pub fn take(self, buf: &mut [u8], piece: &[u8]) -> Taken
         requires { ⌜ SoundAssembler self ⌝ }
         ensures { λ r. ⌜ Takes (takeStep self (now (buf .entry)) (now (piece .entry))) r (now (buf .exit)) ⌝ }

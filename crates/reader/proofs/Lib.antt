@@ -1,2 +1,4 @@
 pub mod Pieces
+pub mod Behind
 pub mod Runs
+pub mod Before

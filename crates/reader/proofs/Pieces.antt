@@ -1,18 +1,17 @@
--- Laws of one piece: what stands next decides it, and a sound progress stays sound.
+-- Laws of one piece: what stands next decides it, and the letters are kept.
 use Prim.Native.Nat.{ℕ, _+_, _≤_, _<_}
 use mathlib.Core.Path.{_≡_, refl, ap, _∙_, subst}
-use mathlib.Core.List.{List}
+use mathlib.Core.List.{List, [], _∷_}
 use native.Mathlib.Omega.{arith}
-use borrow.Author.Tests.{ltb-true, ltb-false}
+use borrow.Author.Tests.{lt-ltb, ltb-true, ltb-false}
 use lib.Dec.{ltb}
-use lib.ListN.{length, length-set}
-use lib.Seq.{length-take-le}
-use Rattle.laws.proofs.Choice.{cond-case}
+use lib.ListN.{length, length-take, length-set}
+use Rattle.laws.proofs.Choice.{by-test, cond-case}
 use Rattle.words.specs.declared.Pair.{Pair}
 use Rattle.code.specs.declared.letters.Letters.{Letters}
 use Rattle.code.specs.declared.next.Next.{Next}
 use Rattle.code.specs.declared.next.Next.the-variants.{End, Spelled, Letter, Fault}
-use Rattle.words.specs.Pairs.{pair}
+use Rattle.words.specs.Pairs.{samePair}
 use Rattle.code.specs.Letters.{placeOf, learnt, held, Kept, learntLetters}
 use Rattle.code.specs.Next.{nextPair}
 use Rattle.code.proofs.Lettering.{learn-known, learn-full, learn-new}
@@ -20,7 +19,7 @@ use Rattle.code.proofs.Nexts.{Sound, next-sound}
 use Rattle.reader.specs.declared.Progress.{Progress}
 use Rattle.reader.specs.declared.Handed.{Handed}
 use Rattle.reader.specs.declared.Piece.the-variants as piece
-use Rattle.reader.specs.Hands.{SoundProgress, freshProgress, handedOf, handed}
+use Rattle.reader.specs.Hands.{handedOf, handed}
 
 -- what stands at a place, behind what was read
 abbrev pub standing : Progress → List ℕ → ℕ → Next
@@ -37,6 +36,18 @@ module _ (t : Progress) (s : List ℕ) (at : ℕ) {x : Next} (e : standing t s a
   handed-is = ap (handedOf t at) e
 
 -- ---- the letters
+place-most : (p : Pair) (l : List Pair) → placeOf p l ≤ length l
+place-most p [] = omega arith
+place-most p (q ∷ l) =
+    by-test (samePair q p) (λ e. rw e (omega arith)) (λ e. rw e (omega (arith, place-most p l)))
+
+-- where more are counted than there are, they stay
+pub learnt-over : (t : Letters) (p : Pair) → length (t .pairs) ≡ 15 → 15 < t .count → learntLetters t p ≡ t
+unfolding learntLetters
+learnt-over t p long h =
+    let most : length (held t) ≤ 15 = rw length-take (omega arith) in
+    rw (lt-ltb (placeOf p (held t)) (t .count) (omega (arith, place-most p (held t))))
+
 module _ (t : Letters) (p : Pair) (few : t .count ≤ 15) (long : length (t .pairs) ≡ 15) where
   pub learnt-kept : Kept (learntLetters t p) (learnt (held t) p)
   unfolding learntLetters
@@ -47,33 +58,12 @@ module _ (t : Letters) (p : Pair) (few : t .count ≤ 15) (long : length (t .pai
       (λ f. learn-new t p long few (ltb-false (placeOf p (held t)) (t .count) e) (ltb-true (t .count) 15 f))
       (λ f. learn-full t p long few (ltb-false (placeOf p (held t)) (t .count) e) (ltb-false (t .count) 15 f)))
 
-  learnt-long : length (learntLetters t p .pairs) ≡ 15
+  pub learnt-long : length (learntLetters t p .pairs) ≡ 15
   unfolding learntLetters
   learnt-long =
       cond-case (λ (x : Letters). length (x .pairs) ≡ 15) (ltb (placeOf p (held t)) (t .count)) _ _ (λ e. long)
       (λ e. cond-case (λ (x : Letters). length (x .pairs) ≡ 15) (ltb (t .count) 15) _ t
       (λ f. length-set (t .pairs) (t .count) p ∙ long) (λ f. long))
-
--- ---- soundness
-pub fresh-sound : (freq : ℕ) → SoundProgress (freshProgress freq)
-fresh-sound freq = record { few = omega arith; long = refl }
-
-pub counted : {t : Progress} → SoundProgress t → length (held (t .letters)) ≡ t .letters .count
-counted {t} h = length-take-le (t .letters .count) (t .letters .pairs) (omega (arith, h .few, h .long))
-
-module _ {t : Progress} (s : List ℕ) (at : ℕ) (h : SoundProgress t) where
-  of-sound : (x : Next) → SoundProgress (handedOf t at x .progress)
-  of-sound End = h
-  of-sound (Fault number) = h
-  of-sound (Letter i next) = record { few = h .few; long = h .long }
-  of-sound (Spelled on off next) =
-      record {
-        few = learnt-kept (t .letters) (pair on off) (h .few) (h .long) .few;
-        long = learnt-long (t .letters) (pair on off) (h .few) (h .long);
-      }
-
-  pub handed-sound : SoundProgress (handed t s at .progress)
-  handed-sound = rw (handed-is t s at refl) (of-sound (standing t s at))
 
 -- a pair that is handed out is one of 260, and is counted
 pub handed-more : (t : Progress) (s : List ℕ) (at : ℕ) {r : Handed} {p : Pair} → r ≡ handed t s at → r .piece ≡ piece.Pair p

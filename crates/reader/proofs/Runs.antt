@@ -4,22 +4,21 @@ use mathlib.Core.Path.{_≡_, refl, sym, ap, _∙_, subst}
 use mathlib.Core.List.{List, [], _∷_, _++_, append-assoc, append-nil}
 use native.Mathlib.Omega.{arith}
 use lib.ListN.{length, getD, length-append}
-use lib.Seq.{getD-take}
 use Rattle.words.specs.declared.Pair.{Pair}
 use Rattle.code.specs.declared.letters.Letters.{Letters}
 use Rattle.code.specs.declared.next.Next.{Next}
 use Rattle.code.specs.declared.next.Next.the-variants.{End, Spelled, Letter, Fault}
 use Rattle.code.specs.declared.next.After.{After}
-use Rattle.code.specs.declared.next.After.the-variants.{Spelling, Lettering}
 use Rattle.words.specs.Pairs.{pair}
-use Rattle.code.specs.Letters.{held, learntLetters}
-use Rattle.code.specs.Next.{nextPair}
 use Rattle.code.specs.Read.{Reading, pairs, fault, onward, readFrom, readCode}
+use Rattle.lettered.specs.Lettered.{lettered}
+use Rattle.lettered.proofs.Learnt.{lettered-more}
 use Rattle.reader.specs.declared.Progress.{Progress}
 use Rattle.reader.specs.declared.Handed.{Handed}
-use Rattle.reader.specs.Hands.{SoundProgress, freshProgress, onePairOn, pairHanded, handed}
+use Rattle.reader.specs.Hands.{freshProgress, onePairOn, pairHanded, handed}
 use Rattle.reader.specs.Hands.{Ending, end, faulted, HandsOut, ends, faults, gives, readingOf}
-use Rattle.reader.proofs.Pieces.{standing, standing-sound, handed-is, learnt-kept, fresh-sound, counted, handed-sound}
+use Rattle.reader.proofs.Pieces.{standing, standing-sound, handed-is}
+use Rattle.reader.proofs.Behind.{Behind, behind-none, next-is, behind-spelled, letter-is, letters-still, behind-letter}
 
 -- a run of a text that agrees with the reading x, which has the pairs ps already
 record Ran (s : List ℕ) (t : Progress) (at : ℕ) (ps : List Pair) (x : Reading) : Type 0 where
@@ -47,42 +46,36 @@ module _ (s : List ℕ) where
       }
 
   -- one turn of the definition
-  turn : (k : ℕ) {t : Progress} (ps : List Pair) (at : ℕ) {x : Next} → SoundProgress t → t .count ≡ length ps → standing t s at ≡ x
-      → readFrom (suc k) (t .freq) s ps (held (t .letters)) (t .after) at ≡ onward (readFrom k (t .freq) s) ps (held (t .letters)) x
-  turn k {t} ps at {x} h c e =
-      let m : nextPair (t .freq) (length ps) (length (held (t .letters))) (t .after) s at ≡ x = rw (← c, counted h) e in
-      ap (onward (readFrom k (t .freq) s) ps (held (t .letters))) m
+  turn : (k : ℕ) {t : Progress} (ps : List Pair) (at : ℕ) {x : Next} → Behind t ps → standing t s at ≡ x
+      → readFrom (suc k) (t .freq) s ps (lettered ps) (t .after) at ≡ onward (readFrom k (t .freq) s) ps (lettered ps) x
+  turn k {t} ps at b e = ap (onward (readFrom k (t .freq) s) ps (lettered ps)) (next-is b s at e)
 
-  from : (k : ℕ) (t : Progress) (ps : List Pair) (at : ℕ) → SoundProgress t → t .count ≡ length ps → length ps + k ≡ 261 → length ps ≤ 260
-      → Ran s t at ps (readFrom k (t .freq) s ps (held (t .letters)) (t .after) at)
-  from zero t ps at h c l r = absurd (omega arith)
-  from (suc k) t ps at h c l r = go (standing t s at) refl (from k)
+  from : (k : ℕ) (t : Progress) (ps : List Pair) (at : ℕ) → Behind t ps → length ps + k ≡ 261 → length ps ≤ 260
+      → Ran s t at ps (readFrom k (t .freq) s ps (lettered ps) (t .after) at)
+  from zero t ps at b l r = absurd (omega arith)
+  from (suc k) t ps at b l r = go (standing t s at) refl (from k)
     where
       go : (x : Next) → standing t s at ≡ x
-          → ((t′ : Progress) (ps′ : List Pair) (at′ : ℕ) → SoundProgress t′ → t′ .count ≡ length ps′ → length ps′ + k ≡ 261
-          → length ps′ ≤ 260 → Ran s t′ at′ ps′ (readFrom k (t′ .freq) s ps′ (held (t′ .letters)) (t′ .after) at′))
-          → Ran s t at ps (readFrom (suc k) (t .freq) s ps (held (t .letters)) (t .after) at)
-      go End e ih = ran-stop end (ends (ap (λ (h : Handed). h .piece) (handed-is t s at e))) (turn k ps at h c e)
+          → ((t′ : Progress) (ps′ : List Pair) (at′ : ℕ) → Behind t′ ps′ → length ps′ + k ≡ 261 → length ps′ ≤ 260
+          → Ran s t′ at′ ps′ (readFrom k (t′ .freq) s ps′ (lettered ps′) (t′ .after) at′))
+          → Ran s t at ps (readFrom (suc k) (t .freq) s ps (lettered ps) (t .after) at)
+      go End e ih = ran-stop end (ends (ap (λ (h : Handed). h .piece) (handed-is t s at e))) (turn k ps at b e)
       go (Fault number) e ih =
-          ran-stop (faulted number) (faults (ap (λ (h : Handed). h .piece) (handed-is t s at e))) (turn k ps at h c e)
+          ran-stop (faulted number) (faults (ap (λ (h : Handed). h .piece) (handed-is t s at e))) (turn k ps at b e)
       go (Spelled on off next) e ih =
           let p : Pair = pair on off in
-          let t′ : Progress = onePairOn t (learntLetters (t .letters) p) Spelling in
-          let room : t .count < 260 = standing-sound t s at e .0 in
+          let room : length ps < 260 = omega (arith, b .count, standing-sound t s at e .0) in
           let size : length (ps ++ (p ∷ [])) ≡ length ps + 1 = length-append ps (p ∷ []) in
-          let sound : SoundProgress t′ = rw (handed-is t s at e) at (handed-sound s at h) in
           ran-more (handed-is t s at e)
-          (rw (turn k ps at h c e, ← learnt-kept (t .letters) p (h .few) (h .long) .are)
-          (ih t′ (ps ++ (p ∷ [])) next sound (omega arith) (omega arith) (omega arith)))
+          (rw (turn k ps at b e, ← lettered-more ps p) (ih _ (ps ++ (p ∷ [])) next (behind-spelled b p) (omega arith) (omega arith)))
       go (Letter i next) e ih =
-          let p : Pair = getD (t .letters .pairs) i (pair 0 0) in
-          let t′ : Progress = onePairOn t (t .letters) Lettering in
-          let room : t .count < 260 = standing-sound t s at e .0 in
+          let known = standing-sound t s at e .1 in
+          let p : Pair = getD (lettered ps) i (pair 0 0) in
+          let room : length ps < 260 = omega (arith, b .count, standing-sound t s at e .0) in
           let size : length (ps ++ (p ∷ [])) ≡ length ps + 1 = length-append ps (p ∷ []) in
-          let sound : SoundProgress t′ = rw (handed-is t s at e) at (handed-sound s at h) in
-          ran-more (handed-is t s at e)
-          (rw (turn k ps at h c e, getD-take (t .letters .count) (t .letters .pairs) i (pair 0 0) (standing-sound t s at e .1))
-          (ih t′ (ps ++ (p ∷ [])) next sound (omega arith) (omega arith) (omega arith)))
+          ran-more (rw (← letter-is b i known) at (handed-is t s at e))
+          (rw (turn k ps at b e)
+          (rw (letters-still b i known) at (ih _ (ps ++ (p ∷ [])) next (behind-letter b i known) (omega arith) (omega arith))))
 
 -- there is one run of a text from a place
 pub one-run : {s : List ℕ} {t : Progress} {at : ℕ} {ps qs : List Pair} {e f : Ending} → HandsOut s t at ps e → HandsOut s t at qs f
@@ -108,7 +101,7 @@ module _ (freq : ℕ) (s : List ℕ) (at : ℕ) where
 
   ran : Ran s (freshProgress freq) at [] (readCode freq s at)
   unfolding readCode
-  ran = from s 261 (freshProgress freq) [] at (fresh-sound freq) refl refl (omega arith)
+  ran = from s 261 (freshProgress freq) [] at (behind-none freq) refl (omega arith)
 
   -- every text is handed out to its end or a fault
   pub run-ends : (ps : List Pair) × (e : Ending) × HandsOut s (freshProgress freq) at ps e

@@ -1,8 +1,8 @@
 -- Document 01: "A reader of the code's text hands out one pair at a time."
-use Prim.Native.Nat.{ℕ, _+_, _≤_}
+use Prim.Native.Nat.{ℕ, _+_}
 use mathlib.Core.Path.{_≡_}
 use mathlib.Core.List.{List, [], _∷_}
-use lib.ListN.{length, getD}
+use lib.ListN.{getD}
 use denote.Ref.{RefT, now}
 use Rattle.words.specs.declared.Pair.{Pair}
 use Rattle.code.specs.declared.letters.Letters.{Letters}
@@ -31,11 +31,6 @@ movedTo r at = textAt (r .text) at
 -- ---- the progress
 abbrev pub freshProgress : ℕ → Progress
 freshProgress freq = record { freq = freq; count = 0; letters = noLetters; after = Nothing }
-
--- what a fresh progress has and every piece keeps
-pub record SoundProgress (t : Progress) : Type 0 where
-  pub few : t .letters .count ≤ 15
-  pub long : length (t .letters .pairs) ≡ 15
 
 -- ---- one piece: what it is, and the place and the progress behind it
 abbrev pub hand : ℕ → Piece → Progress → Handed

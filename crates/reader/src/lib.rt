@@ -1,11 +1,15 @@
 // A reader of a code's text. It holds the text and a place, and hands out one pair at a time: the pairs before a fault, and then the fault.
+use code::Code;
 use code::letters::Letters;
 use code::next::After;
 use code::next::Next;
 use words::Pair;
 ghost use mathlib.Core.Path.{_≡_};
 ghost use Prim.Native.Nat.{_<_};
-ghost use Rattle.reader.specs.Hands.{textAt, movedTo, freshProgress, SoundProgress, pairHanded, handed, handedBy};
+ghost use lib.ListN.{getD};
+ghost use Rattle.words.specs.Pairs.{pair};
+ghost use Rattle.code.specs.Letters.{learntLetters};
+ghost use Rattle.reader.specs.Hands.{textAt, movedTo, freshProgress, pairHanded, handed, handedBy};
 
 pub struct CodeText<'a> {
     pub text: &'a [u8],
@@ -66,9 +70,31 @@ fn pair_handed(progress: Progress, p: Pair, letters: Letters, after: After, next
     }
 }
 
+// The pair of a letter. There are no letters past O: one that a progress from elsewhere counts stands for 0 and 0.
+fn pair_of(letters: Letters, i: usize) -> Pair
+    ensures { λ r. ⌜ r ≡ getD (letters .pairs) i (pair 0 0) ⌝ }
+{
+    let pairs = letters.pairs;
+    if i < Code::LETTERS {
+        pairs[i]
+    } else {
+        Pair { on: 0, off: 0 }
+    }
+}
+
+// The letters after one pair more; where a progress from elsewhere counts more than there are, they stay.
+fn learn(letters: Letters, p: Pair) -> Letters
+    ensures { λ r. ⌜ r ≡ learntLetters letters p ⌝ }
+{
+    if letters.count <= Code::LETTERS {
+        code::letters::learn(letters, p)
+    } else {
+        letters
+    }
+}
+
 // What is handed out at a place of a text; the end and a fault leave the place and the progress as they are.
-pub fn next_from(progress: Progress, text: &[u8], at: usize) -> Handed
-    requires { ⌜ SoundProgress progress ⌝ }
+fn next_from(progress: Progress, text: &[u8], at: usize) -> Handed
     ensures { λ r. ⌜ r ≡ handed progress (now (text .entry)) at ⌝ }
 {
     let letters = progress.letters;
@@ -93,12 +119,12 @@ pub fn next_from(progress: Progress, text: &[u8], at: usize) -> Handed
         },
         Next::Spelled(on, off, next) => {
             let p = Pair { on, off };
-            let learnt = code::letters::learn(letters, p);
+            let learnt = learn(letters, p);
             pair_handed(progress, p, learnt, After::Spelling, next)
         }
         Next::Letter(i, next) => {
-            let known = letters.pairs;
-            pair_handed(progress, known[i], letters, After::Lettering, next)
+            let p = pair_of(letters, i);
+            pair_handed(progress, p, letters, After::Lettering, next)
         }
     }
 }
@@ -112,7 +138,6 @@ impl<'a> CodeText<'a> {
 
     // Hands out what stands at the reader's place, and moves on behind it.
     pub fn next(&mut self, progress: Progress) -> Handed
-        requires { ⌜ SoundProgress progress ⌝ }
         ensures { λ r. ⌜ (r ≡ handedBy progress (now (self .entry))) × (now (self .exit) ≡ movedTo (now (self .entry)) (r .at)) ⌝ }
     {
         let handed = next_from(progress, self.text, self.at);
@@ -123,7 +148,6 @@ impl<'a> CodeText<'a> {
 
 // One piece of a text through a reader of it: whoever calls this holds a text and a place, and no reader.
 pub fn hand_out(progress: Progress, text: &[u8], at: usize) -> Handed
-    requires { ⌜ SoundProgress progress ⌝ }
     ensures { λ r. ⌜ r ≡ handed progress (now (text .entry)) at ⌝ }
 {
     let mut reader = CodeText::of(text, at);

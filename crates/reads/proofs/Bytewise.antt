@@ -5,7 +5,7 @@ use mathlib.Core.Bool.{true, false, cond, _&&_}
 use mathlib.Core.List.{List, [], _∷_, _++_, append-assoc, append-nil}
 use native.Mathlib.Nat.{add-zero}
 use native.Mathlib.Omega.{arith}
-use borrow.Author.Tests.{ne-eqb, lt-ltb, le-leb, lt-leb, ltb-true}
+use borrow.Author.Tests.{ne-eqb, lt-ltb, le-ltb, le-leb, lt-leb, ltb-true, leb-true, leb-false}
 use lib.Dec.{eqb, ltb, leb}
 use lib.ListN.{length, drop, getD, length-append}
 use lib.Seq.{drop-drop, getD-drop}
@@ -18,7 +18,7 @@ use Rattle.words.specs.declared.Pair.{Pair}
 use Rattle.words.specs.Digits.{isDigit, worth}
 use Rattle.words.specs.Pairs.{pair}
 use Rattle.meaning.specs.Line.{isNumber, within, isCount, isLetter, lettered, opening, on, due, off, spelling, Step, stop, go, lettering, Reading, faulty, sound, after, reads, codeIn}
-use Rattle.text.specs.Number.{run, number, numberOf, numberAt}
+use Rattle.text.specs.Number.{run, numberOf, numberAt}
 use Rattle.code.specs.declared.next.Count.the-variants.{Bad, Good}
 use Rattle.code.specs.declared.next.Next.{Next}
 use Rattle.code.specs.declared.next.After.the-variants.{Nothing, Spelling, Lettering}
@@ -89,11 +89,13 @@ module _ (freq : ℕ) where
 
     count-some : (at c : ℕ) (w : List ℕ) → drop at s ≡ c ∷ w → isDigit c ≡ true
         → countAt freq s at ≡ cond (isCount freq (c ∷ run w)) (Good (worth 0 (c ∷ run w)) (at + suc (length (run w)))) Bad
-    unfolding countAt numberAt numberOf number legal
+    unfolding countAt numberAt numberOf
     count-some at c w e g =
         let digits : all isDigit (c ∷ run w) ≡ true = and-true (isDigit c) (all isDigit (run w)) g (leading-passes isDigit w) in
         rw (e, g, ne-eqb (suc (length (run w))) 0 (λ z. absurd (omega arith)), count-is c (run w) digits)
-        (by-test (leb (suc (length (run w))) 6) (λ f. rw f) (λ f. rw f))
+        (by-test (leb (suc (length (run w))) 6)
+        (λ f. rw (f, le-ltb 6 (suc (length (run w))) (leb-true (suc (length (run w))) 6 f)))
+        (λ f. rw (f, lt-ltb 6 (suc (length (run w))) (leb-false (suc (length (run w))) 6 f))))
 
     count-none : (at : ℕ) (x : List ℕ) → drop at s ≡ x → run x ≡ [] → countAt freq s at ≡ Bad
     unfolding countAt numberAt numberOf

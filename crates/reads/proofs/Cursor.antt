@@ -4,7 +4,7 @@ use mathlib.Core.Path.{_≡_, refl, sym, ap, _∙_}
 use mathlib.Core.Bool.{Bool, true, false, cond, _&&_, _||_}
 use mathlib.Core.List.{List, [], _∷_, _++_, append-nil}
 use native.Mathlib.Omega.{arith}
-use borrow.Author.Tests.{eqb-true, eqb-false, eq-eqb, ne-eqb, lt-ltb, le-ltb, le-leb, lt-leb, ltb-true, ltb-false}
+use borrow.Author.Tests.{eqb-true, eqb-false, eq-eqb, ne-eqb, lt-ltb, le-ltb, le-leb, lt-leb, ltb-true, ltb-false, leb-true, leb-false}
 use lib.Dec.{eqb, ltb, leb}
 use lib.ListN.{length, drop, getD, length-append}
 use lib.Seq.{drop-drop}
@@ -17,9 +17,9 @@ use Rattle.laws.proofs.Cutting.{upTo, from, count, split, Ending, ends, goes, e
 use Rattle.words.specs.Digits.{isDigit, worth}
 use Rattle.meaning.specs.Line.{isNumber, within, isAddress}
 use Rattle.text.specs.declared.number.Number.{Number}
-use Rattle.text.specs.declared.number.Number.the-variants.{Missing, Value}
+use Rattle.text.specs.declared.number.Number.the-variants.{Missing, TooLong, Value}
 use Rattle.text.specs.declared.field.Field.the-variants.{Bad, Good}
-use Rattle.text.specs.Number.{run, number, numberOf, numberAt}
+use Rattle.text.specs.Number.{run, numberOf, numberAt}
 use Rattle.text.specs.Field as field
 use Rattle.text.specs.Field.{endsField, afterComma, fieldIs, fieldWithin}
 use Rattle.request.specs.declared.address.Address.{Address}
@@ -27,7 +27,7 @@ use Rattle.request.specs.declared.address.Address.the-variants as address
 use Rattle.request.specs.declared.mode.Mode.{Mode}
 use Rattle.request.specs.declared.mode.Mode.the-variants.{Ir, Sensor, IrBlaster}
 use Rattle.request.specs.declared.mode.ModeRead.the-variants as mode
-use Rattle.request.specs.Address.{portRead, portAt, moduleRead, addressAt}
+use Rattle.request.specs.Address.{beyond, partOf, partAt, portRead, portAt, moduleRead, addressAt}
 use Rattle.request.specs.Mode.{modeAt, modeWord}
 
 -- ---- words
@@ -66,19 +66,15 @@ word-back f =
 
 -- ---- numbers
 
--- a number of an address: one that is out of range counts as 1,000,000
+-- what digits of an address count as: a number, or one above every module and port
 abbrev pub counts : List ℕ → ℕ
-counts f = number f
+counts f = cond (leb (length f) 6) (worth 0 f) beyond
 
-pub counts-few : (f : List ℕ) → leb (length f) 6 ≡ true → counts f ≡ worth 0 f
-unfolding number
-counts-few f e = rw e
-
--- a number is in a range below that exactly where it counts as one that is
-pub counts-within : (least most : ℕ) (f : List ℕ) → most < 1000000 → isNumber f ≡ true → within least most f ≡ between least most (counts f)
-unfolding within number
+-- they count as one in a range exactly where they are a number in it
+pub counts-within : (least most : ℕ) (f : List ℕ) → most < beyond → isNumber f ≡ true → within least most f ≡ between least most (counts f)
+unfolding within
 counts-within least most f h e =
-    rw e (by-test (leb (length f) 6) (λ g. rw g) (λ g. rw (g, lt-leb 1000000 most h, and-false)))
+    rw e (by-test (leb (length f) 6) (λ g. rw g) (λ g. rw (g, lt-leb beyond most h, and-false)))
 
 -- ---- at any place
 module _ (s : List ℕ) (at : ℕ) where
@@ -138,31 +134,37 @@ module _ (s : List ℕ) (at : ℕ) where
           rw (e, lt-leb (length s) (at + length (run (drop at s))) (stands-below s _ b x d), stands-at s _ b x 0 d)
 
   -- what is made of a number that is the whole field, and of anything else
-  number-at : {A : Type 0} (K : Number → A) (bad : A) → K Missing ≡ bad → ((v end : ℕ) → endsField s end ≡ false → K (Value v end) ≡ bad)
-      → K (numberAt s at) ≡ cond (isNumber fieldAt) (K (Value (counts fieldAt) (at + length fieldAt))) bad
+  number-at : {A : Type 0} (K : Number → A) (bad : A) → K Missing ≡ bad
+      → ((end : ℕ) → endsField s end ≡ false → K (TooLong end) ≡ bad) → ((v end : ℕ) → endsField s end ≡ false → K (Value v end) ≡ bad)
+      → K (numberAt s at)
+      ≡ cond (isNumber fieldAt) (cond (leb (length fieldAt) 6) (K (Value (worth 0 fieldAt) (at + length fieldAt))) (K (TooLong (at + length fieldAt)))) bad
   unfolding numberAt numberOf isNumber
-  number-at {A} K bad missing other =
+  number-at {A} K bad missing long other =
       by-test (all isDigit fieldAt)
       (λ e. rw (leading-part isDigit 44 refl (drop at s) e, e)
       (by-test (ltb 0 (length fieldAt))
-      (λ f. rw (f, ne-eqb (length fieldAt) 0 (λ z. absurd (omega (arith, ltb-true 0 (length fieldAt) f)))))
+      (λ f. rw (f, ne-eqb (length fieldAt) 0 (λ z. absurd (omega (arith, ltb-true 0 (length fieldAt) f))))
+      (by-test (leb (length fieldAt) 6)
+      (λ g. rw (g, le-ltb 6 (length fieldAt) (leb-true (length fieldAt) 6 g)))
+      (λ g. rw (g, lt-ltb 6 (length fieldAt) (leb-false (length fieldAt) 6 g)))))
       (λ f. rw (f, eq-eqb (length fieldAt) 0 (omega (arith, ltb-false 0 (length fieldAt) f))) missing)))
       (λ e. rw e
-      (by-test (eqb (length (run (drop at s))) 0) (λ f. rw f missing) (λ f. rw f (other _ _ (whole-at ∙ e)))))
+      (by-test (eqb (length (run (drop at s))) 0) (λ f. rw f missing) λ f. rw f
+      (by-test (ltb 6 (length (run (drop at s)))) (λ g. rw g (long _ (whole-at ∙ e))) (λ g. rw g (other _ _ (whole-at ∙ e))))))
 
-  within-at : (least most : ℕ) → most < 1000000
-      → fieldWithin least most s at ≡ cond (within least most fieldAt) (Good (worth 0 fieldAt) (at + length fieldAt)) Bad
-  unfolding fieldWithin within number
-  within-at least most h =
-      number-at (field.within least most s) Bad refl (λ v end e. rw e)
+  within-at : (least most : ℕ) → fieldWithin least most s at ≡ cond (within least most fieldAt) (Good (worth 0 fieldAt) (at + length fieldAt)) Bad
+  unfolding fieldWithin within
+  within-at least most =
+      number-at (field.within least most s) Bad refl (λ end e. refl) (λ v end e. rw e)
       ∙ by-test (isNumber fieldAt)
-      (λ e. rw (e, ends-at, between-checks)
-      (by-test (leb (length fieldAt) 6) (λ g. rw g) (λ g. rw (g, lt-leb 1000000 most h, and-false))))
+      (λ e. rw e (by-test (leb (length fieldAt) 6) (λ f. rw (f, ends-at, between-checks)) (λ f. rw f)))
       (λ e. rw e)
 
   port-at : (m : ℕ) → portAt s m at ≡ cond (isNumber fieldAt) (address.At m (counts fieldAt) (at + length fieldAt)) address.Bad
-  unfolding portAt
-  port-at m = number-at (portRead s m) address.Bad refl (λ v end e. rw e) ∙ rw ends-at
+  unfolding portAt partAt
+  port-at m =
+      number-at (λ n. portRead s m (partOf n)) address.Bad refl (λ end e. rw e) (λ v end e. rw e)
+      ∙ rw ends-at (by-test (leb (length fieldAt) 6) (λ f. rw f) (λ f. rw f))
 
 -- ---- an address
 address-is : (f : List ℕ) → isAddress f ≡ eqb (suc (count 58 f)) 2 && isNumber (upTo 58 f) && isNumber (upTo 58 (behind 58 1 f))
@@ -239,7 +241,7 @@ module _ (s : List ℕ) (at : ℕ) where
   addressOf f = cond (isAddress f) (address.At (counts (part 58 0 f)) (counts (part 58 1 f)) (at + length f)) address.Bad
 
   some-digits : (x : List ℕ) → drop (length d) (drop at s) ≡ x → 1 ≤ length d
-      → moduleRead s (Value (counts d) (at + length d)) ≡ addressOf (fieldAt s at)
+      → moduleRead s (partOf (Value (counts d) (at + length d))) ≡ addressOf (fieldAt s at)
   some-digits [] e some =
       let digits : all isDigit d ≡ true = leading-passes isDigit (drop at s) in
       let f : fieldAt s at ≡ d =
@@ -270,11 +272,15 @@ module _ (s : List ℕ) (at : ℕ) where
       (λ g. rw (below, byte, g, front, f, broken-no d b (upTo 44 y) digits (leading-end isDigit (drop at s) e) g)))
 
   address-at : addressAt s at ≡ addressOf (fieldAt s at)
-  unfolding addressAt numberAt numberOf
+  unfolding addressAt partAt numberAt numberOf
   address-at =
       by-test (eqb (length d) 0)
       (λ e. rw (e, address-is (fieldAt s at), no-number (drop at s) (none-is d (eqb-true (length d) 0 e)), and-false))
-      (λ e. rw e (some-digits (drop (length d) (drop at s)) refl (omega (arith, eqb-false (length d) 0 e))))
+      (λ e. rw e
+      (let some = some-digits (drop (length d) (drop at s)) refl (omega (arith, eqb-false (length d) 0 e)) in
+      by-test (leb (length d) 6)
+      (λ f. rw (le-ltb 6 (length d) (leb-true (length d) 6 f)) (rw f at some))
+      (λ f. rw (lt-ltb 6 (length d) (leb-false (length d) 6 f)) (rw f at some))))
 
   -- ---- a mode
   mode-at : modeAt s at ≡ cond (isMode (fieldAt s at)) (mode.Known (modeIn (fieldAt s at)) (at + length (fieldAt s at))) mode.Unknown
@@ -318,9 +324,9 @@ module _ {s : List ℕ} {k at : ℕ} (c : Cursor s k at) where
       (λ e. rw e (lt-ltb 0 (count 44 s - k) (omega (arith, ltb-true (suc k) (suc (count 44 s)) e))))
       (λ e. rw e (le-ltb 0 (count 44 s - k) (omega (arith, ltb-false (suc k) (suc (count 44 s)) e)))))
 
-  pub within-is : (least most : ℕ) → most < 1000000
+  pub within-is : (least most : ℕ)
       → fieldWithin least most s at ≡ cond (within least most (part 44 k s)) (Good (worth 0 (part 44 k s)) (at + length (part 44 k s))) Bad
-  within-is least most h = within-at s at least most h ∙ rw field-is
+  within-is least most = within-at s at least most ∙ rw field-is
 
   pub address-is-at : addressAt s at
       ≡ cond (isAddress (part 44 k s))

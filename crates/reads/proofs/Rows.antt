@@ -31,13 +31,13 @@ use Rattle.request.specs.declared.mode.Mode.the-variants.{Ir, Sensor, IrBlaster
 use Rattle.request.specs.declared.Request.{Request}
 use Rattle.request.specs.declared.Request.the-variants as request
 use Rattle.request.specs.Name.{getdevices, getversion, nameOf, nameAt}
-use Rattle.request.specs.Address.{hasModule, addressFault}
+use Rattle.request.specs.Address.{beyond, hasModule, addressFault}
 use Rattle.request.specs.Mode.{modeWord, mayHave}
 use Rattle.request.specs.Fields.{capped, sentAt}
 use Rattle.request.specs.Request.{isPrintable, alone, setIrAt, setStateAt, getStateAt, atAddress, addressed, named, readRequest}
 use Rattle.reads.specs.Readings.{readingOf}
 use Rattle.reads.proofs.Meant.{sensorAt, meantPairs, meantCode, meant}
-use Rattle.reads.proofs.Cursor.{word-is, isMode, modeIn, word-back, counts, counts-few, counts-within, Cursor, start, field-is, next, over, within-is, address-is-at, mode-is}
+use Rattle.reads.proofs.Cursor.{word-is, isMode, modeIn, word-back, counts, counts-within, Cursor, start, field-is, next, over, within-is, address-is-at, mode-is}
 use Rattle.reads.proofs.Bytewise.{code-bytewise}
 
 -- ---- the module in the table, as a range
@@ -104,7 +104,7 @@ module _ (log : List Deed) (connection : ℕ) (s : List ℕ) where
 
   -- 017 for the address, 002, 003, and what comes behind
   address-row : (n : Name) (least most : ℕ) {rest : Judged} → nameOf n ≡ field 0
-      → ((k : ℕ) → hasModule n k ≡ between least most k) → most < 1000000
+      → ((k : ℕ) → hasModule n k ≡ between least most k) → most < beyond
       → ((at : ℕ) → Cursor s 1 at → between least most m ≡ true → makes (atAddress s n m p (at + length (field 1))) ≡ rest)
       → first (table.address log connection s least most []) rest ≡ makes (addressed s n)
   unfolding addressed addressFault
@@ -122,7 +122,7 @@ module _ (log : List Deed) (connection : ℕ) (s : List ℕ) where
       )
       (by-test (within least most (part 58 0 (field 1))) (λ h. rw h
       (by-test (within 1 3 (part 58 1 (field 1)))
-      (λ u. rw (u, counts-few (part 58 0 (field 1)) (within-few least most (part 58 0 (field 1)) h), counts-few (part 58 1 (field 1)) (within-few 1 3 (part 58 1 (field 1)) u))
+      (λ u. rw (u, within-few least most (part 58 0 (field 1)) h, within-few 1 3 (part 58 1 (field 1)) u)
       (sym (go at c (within-range least most (part 58 0 (field 1)) h))))
       (λ u. rw u)))
       (λ h. rw h)))
@@ -130,7 +130,7 @@ module _ (log : List Deed) (connection : ℕ) (s : List ℕ) where
 
   -- a request that takes one module only
   one-row : (n : Name) (k : ℕ) {rest : Judged} → nameOf n ≡ field 0
-      → ((j : ℕ) → hasModule n j ≡ eqb j k) → k < 1000000
+      → ((j : ℕ) → hasModule n j ≡ eqb j k) → k < beyond
       → ((at : ℕ) → Cursor s 1 at → m ≡ k → makes (atAddress s n m p (at + length (field 1))) ≡ rest)
       → first (table.address log connection s k k []) rest ≡ makes (addressed s n)
   one-row n k e has small go =
@@ -165,7 +165,7 @@ module _ (log : List Deed) (connection : ℕ) (s : List ℕ) where
       record {
         is =
             one-row name.SetState 2 e (λ j. refl) (omega arith)
-            (λ at c h. rw (h, within-is (next c) 0 1 (omega arith))
+            (λ at c h. rw (h, within-is (next c) 0 1)
             (by-test (within 0 1 (field 2))
             (λ f. rw f (alone-row (next c) (request.SetState p (worth 0 (field 2)))))
             (λ f. rw f)));
@@ -205,11 +205,11 @@ module _ (log : List Deed) (connection : ℕ) (s : List ℕ) where
   unfolding table.sendir sentAt capped
   sendir-row e =
       record {
-        is = one-row name.SendIr 1 e (λ j. refl) (omega arith) (λ at c h. rw (h, within-is (next c) 0 65535 (omega arith))
+        is = one-row name.SendIr 1 e (λ j. refl) (omega arith) (λ at c h. rw (h, within-is (next c) 0 65535)
             (by-test (sensorAt p log) (λ z. rw z) λ z. rw z
-            (by-test (within 0 65535 (field 2)) (λ i. rw (i, within-is (next (next c)) 15000 500000 (omega arith))
-            (by-test (within 15000 500000 (field 3)) (λ q. rw (q, within-is (next (next (next c))) 1 999999 (omega arith))
-            (by-test (within 1 999999 (field 4)) (λ r. rw (r, within-is (next (next (next (next c)))) 1 383 (omega arith))
+            (by-test (within 0 65535 (field 2)) (λ i. rw (i, within-is (next (next c)) 15000 500000)
+            (by-test (within 15000 500000 (field 3)) (λ q. rw (q, within-is (next (next (next c))) 1 999999)
+            (by-test (within 1 999999 (field 4)) (λ r. rw (r, within-is (next (next (next (next c)))) 1 383)
             (by-test (within 1 383 (field 5)) (λ o. rw o
             (by-test (eqb (worth 0 (field 5) % 2) 0) (λ v. rw v)
             λ v. rw (v, ← next (next (next (next (next c)))) .stands, ← code-bytewise, code-row)))

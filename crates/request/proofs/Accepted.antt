@@ -10,7 +10,7 @@ use lib.ListN.{length}
 use Rattle.laws.specs.Lists.{all}
 use Rattle.laws.proofs.Choice.{cond-case}
 use Rattle.text.specs.declared.number.Number.{Number}
-use Rattle.text.specs.declared.number.Number.the-variants.{Missing, Value}
+use Rattle.text.specs.declared.number.Number.the-variants.{Missing, TooLong, Value}
 use Rattle.text.specs.declared.field.Field.{Field}
 use Rattle.text.specs.declared.field.Field.the-variants.{Bad, Good}
 use Rattle.text.specs.Number.{numberAt}
@@ -44,6 +44,7 @@ field-case P least most s at bad good = go (numberAt s at)
   where
     go : (n : Number) → P (field.within least most s n)
     go Missing = bad
+    go (TooLong end) = bad
     go (Value v end) =
         cond-case P (not (endsField s end)) Bad _ (λ _. bad) λ _.
         cond-case P (ltb v least) Bad _ (λ _. bad) λ l.

@@ -1,4 +1,5 @@
 pub mod Naming
 pub mod Sending
 pub mod Capping
+pub mod Beyond
 pub mod Accepted

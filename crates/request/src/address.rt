@@ -2,7 +2,7 @@
 use crate::name::Name;
 use text::number::Number;
 ghost use mathlib.Core.Path.{_≡_};
-ghost use Rattle.request.specs.Address.{portAt, addressAt, hasModule, addressFault};
+ghost use Rattle.request.specs.Address.{partAt, portAt, addressAt, hasModule, addressFault};
 
 // A module, a port and the place where the field ends, or none.
 pub enum Address {
@@ -10,13 +10,32 @@ pub enum Address {
     At(u64, u64, usize),
 }
 
+// One part of an address, the module or the port: the number that its digits count as and the place behind them, or no digit.
+enum Part {
+    Missing,
+    Digits(u64, usize),
+}
+
+// What a part of over six digits counts as, for it is digits all the same: above every module and port.
+const BEYOND: u64 = 1000000;
+
+fn part_at(s: &[u8], at: usize) -> Part
+    ensures { λ r. ⌜ r ≡ partAt (now (s .entry)) at ⌝ }
+{
+    match text::number::number_at(s, at) {
+        Number::Missing => Part::Missing,
+        Number::TooLong(end) => Part::Digits(BEYOND, end),
+        Number::Value(n, end) => Part::Digits(n, end),
+    }
+}
+
 // The port behind a module and its colon.
 fn port_at(s: &[u8], m: u64, at: usize) -> Address
     ensures { λ r. ⌜ r ≡ portAt (now (s .entry)) m at ⌝ }
 {
-    match text::number::number_at(s, at) {
-        Number::Missing => Address::Bad,
-        Number::Value(port, end) => {
+    match part_at(s, at) {
+        Part::Missing => Address::Bad,
+        Part::Digits(port, end) => {
             if text::field::ends_field(s, end) {
                 Address::At(m, port, end)
             } else {
@@ -29,9 +48,9 @@ fn port_at(s: &[u8], m: u64, at: usize) -> Address
 pub fn address_at(s: &[u8], at: usize) -> Address
     ensures { λ r. ⌜ r ≡ addressAt (now (s .entry)) at ⌝ }
 {
-    match text::number::number_at(s, at) {
-        Number::Missing => Address::Bad,
-        Number::Value(m, end) => {
+    match part_at(s, at) {
+        Part::Missing => Address::Bad,
+        Part::Digits(m, end) => {
             if s.len() <= end {
                 return Address::Bad;
             }

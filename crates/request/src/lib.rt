@@ -1,8 +1,8 @@
 // A line of bytes read into one request, or into its first fault that does not depend on the hub's state.
-pub mod address;
+mod address;
 pub mod fields;
 pub mod mode;
-pub mod name;
+mod name;
 pub mod read;
 
 use crate::fields::Sent;

@@ -1,14 +1,16 @@
 -- What is kept in a slot is found there and the other slots stay; lists that are alike are the same, and so are pairs of the same counts.
-use mathlib.Core.Path.{_≡_, refl, _∙_}
+use mathlib.Core.Path.{_≡_, refl, sym, ap, _∙_}
 use mathlib.Core.Bool.{true}
 use mathlib.Core.List.{List, [], _∷_}
 use Prim.Native.Nat.{ℕ, zero, suc, _+_, _*_, _<_, _≤_}
 use native.Mathlib.Omega.{arith}
 use lib.ListN.{length, getD, set, length-set}
-use lib.Seq.{sets, getD-set-same, getD-set-other}
+use lib.Seq.{sets, length-sets, getD-set-same, getD-set-other}
 use lib.Dec.{eqb, ltb}
 use borrow.Author.Tests.{eq-eqb, eqb-true, ltb-true, ltb-false}
+use Rattle.laws.specs.Put.{storedIn}
 use Rattle.laws.proofs.Choice.{by-test, not-both}
+use Rattle.laws.proofs.Storing.{stores-stored}
 use Rattle.words.specs.declared.Pair.{Pair}
 use Rattle.meaning.specs.Time.{countsOf}
 use Rattle.store.specs.Store.{numbers, slotCounts, alike}
@@ -69,17 +71,20 @@ numbers-back (v ∷ vs) l i h =
     rw (before-sets vs (set l i v) (suc i) i (omega arith), getD-set-same l i v 0 k, numbers-back vs (set l i v) (suc i) w)
 
 module _ (store : List ℕ) (slot : ℕ) (ps : List Pair) (h : slot < 3) (size : length store ≡ 1560) (few : length ps ≤ 260) where
-  pub kept : slotCounts (sets store (slot * 520) (countsOf ps)) slot (length ps) ≡ countsOf ps
+  pub kept-size : length (storedIn store (slot * 520) (countsOf ps)) ≡ 1560
+  kept-size = ap length (sym (stores-stored store (slot * 520) (countsOf ps))) ∙ length-sets store (slot * 520) (countsOf ps) ∙ size
+
+  pub kept : slotCounts (storedIn store (slot * 520) (countsOf ps)) slot (length ps) ≡ countsOf ps
   unfolding slotCounts
   kept =
-      rw (← counts-length ps) (numbers-back (countsOf ps) store (slot * 520) (omega (arith, counts-length ps)))
+      rw (← counts-length ps, ← stores-stored store (slot * 520) (countsOf ps)) (numbers-back (countsOf ps) store (slot * 520) (omega (arith, counts-length ps)))
 
   pub others-kept : (other : ℕ) → other < 3 → (other ≡ slot → ⊥) → (count : ℕ) → count ≤ 260
-      → slotCounts (sets store (slot * 520) (countsOf ps)) other count ≡ slotCounts store other count
+      → slotCounts (storedIn store (slot * 520) (countsOf ps)) other count ≡ slotCounts store other count
   unfolding slotCounts
   others-kept other g differ count most =
-      by-test (ltb other slot)
+      rw (← stores-stored store (slot * 520) (countsOf ps)) (by-test (ltb other slot)
       (λ e. numbers-before (2 * count) (other * 520) (countsOf ps) store (slot * 520) (omega (arith, ltb-true other slot e)))
       (λ e.
       let l = ltb-false other slot e in
-      numbers-behind (2 * count) (other * 520) (countsOf ps) store (slot * 520) (omega (arith, counts-length ps)))
+      numbers-behind (2 * count) (other * 520) (countsOf ps) store (slot * 520) (omega (arith, counts-length ps))))

@@ -6,14 +6,14 @@ ghost use mathlib.Core.Path.{_≡_};
 ghost use mathlib.Core.Bool.{true};
 ghost use Prim.Native.Nat.{_*_, _≤_, _<_};
 ghost use lib.ListN.{take};
-ghost use lib.Seq.{sets};
+ghost use Rattle.laws.specs.Put.{storedIn};
 ghost use Rattle.meaning.specs.Time.{countsOf, onAt};
 ghost use Rattle.store.specs.Store.{slotCounts, alike};
 
 // Keeps the first count pairs in a slot.
 pub fn keep(store: &mut [u16; 1560], slot: usize, pairs: [Pair; Code::MOST_PAIRS], count: usize)
     requires { ⌜ (slot < 3) × (count ≤ 260) ⌝ }
-    ensures { λ _. ⌜ now (store .exit) ≡ sets (now (store .entry)) (slot * 520) (countsOf (take count pairs)) ⌝ }
+    ensures { λ _. ⌜ now (store .exit) ≡ storedIn (now (store .entry)) (slot * 520) (countsOf (take count pairs)) ⌝ }
 {
     let base = slot * 520;
     let mut i: usize = 0;

@@ -4,7 +4,7 @@ use mathlib.Core.Path.{_≡_, refl, sym, ap, _∙_}
 use mathlib.Core.List.{List, [], _∷_, _++_, append-nil}
 use mathlib.Core.Bool.{true}
 use native.Mathlib.Omega.{arith}
-use borrow.Author.Tests.{lt-ltb, le-ltb, le-leb, lt-leb, ne-eqb}
+use borrow.Author.Tests.{lt-ltb, le-ltb, lt-leb, ne-eqb}
 use lib.ListN.{length, drop, getD, length-drop, length-append}
 use Rattle.laws.specs.Lists.{all}
 use Rattle.laws.proofs.Choice.{and-left}
@@ -12,7 +12,7 @@ use Rattle.laws.proofs.Lists.{leading-all, stands-at, stands-below, stands-behi
 use Rattle.text.specs.declared.number.Number.the-variants.{Value}
 use Rattle.text.specs.declared.field.Field.the-variants.{Good}
 use Rattle.words.specs.Digits.{isDigit, worth}
-use Rattle.text.specs.Number.{run, number, numberOf, numberAt}
+use Rattle.text.specs.Number.{run, numberOf, numberAt}
 use Rattle.text.specs.Field.{endsField, afterComma, fieldWithin}
 use Rattle.words.specs.Decimal.{decimal}
 use Rattle.text.proofs.Decimals.{decimal-digits, decimal-few, decimal-some, decimal-worth}
@@ -29,11 +29,11 @@ module _ (s : List ℕ) (at : ℕ) (ds rest : List ℕ) (digits : all isDigit ds
   digits-below = omega (arith, sym (length-drop at s) ∙ ap length e ∙ length-append ds rest)
 
   pub digits-read : length ds ≤ 6 → run rest ≡ [] → numberAt s at ≡ Value (worth 0 ds) (at + length ds)
-  unfolding numberAt numberOf number
+  unfolding numberAt numberOf
   digits-read few stop =
       let g : run (drop at s) ≡ ds =
       ap run e ∙ leading-all isDigit ds rest digits ∙ ap (λ (l : List ℕ). ds ++ l) stop ∙ append-nil ds in
-      rw (g, ne-eqb (length ds) 0 (omega arith), le-leb (length ds) 6 few)
+      rw (g, ne-eqb (length ds) 0 (omega arith), le-ltb 6 (length ds) few)
 
 -- a written number
 pub number-behind : (s : List ℕ) (at n : ℕ) (rest : List ℕ) → drop at s ≡ decimal n ++ rest → n < 1000000 → run rest ≡ []

@@ -12,7 +12,7 @@ use Rattle.laws.specs.Lists.{all}
 use Rattle.laws.specs.Put.{Put}
 use Rattle.laws.proofs.Choice.{by-test, cond-case}
 use Rattle.laws.proofs.Lists.{all-append}
-use Rattle.laws.proofs.Put.{then, byte}
+use Rattle.laws.proofs.Put.{put-length, then, byte}
 use Rattle.words.specs.Digits.{isDigit, worth}
 use Rattle.words.specs.Decimal.{decimalIn, decimal}
 
@@ -40,9 +40,11 @@ pub decimal-longer : (n : ℕ) → 10 ≤ n → n < 2 ^ 64 → length (decimal n
 decimal-longer n l h = ap length (decimal-step n l h) ∙ length-append (decimal (n / 10)) ((48 + n % 10) ∷ [])
 
 -- the store of the last digit
-pub put-last : {b b₁ : List ℕ} {at m n : ℕ} → 10 ≤ n → n < 2 ^ 64 → Put b at (decimal (n / 10)) b₁ m
+pub put-last : {b b₁ : List ℕ} {at m n : ℕ} → 10 ≤ n → n < 2 ^ 64 → Put b at (decimal (n / 10)) b₁ m → at + length (decimal n) ≤ length b
     → Put b at (decimal n) (set b₁ m (48 + n % 10)) (m + 1)
-put-last {b} {b₁} {at} {m} {n} l h p = rw (decimal-step n l h) (then p (byte b₁ m (48 + n % 10)))
+put-last {b} {b₁} {at} {m} {n} l h p r =
+    let k : m < length b₁ = omega (arith, p .place, put-length p, decimal-longer n l h) in
+    rw (decimal-step n l h) (then p (byte b₁ m (48 + n % 10) k))
 
 -- ---- their digits
 
@@ -107,9 +109,12 @@ pub decimal-some : (n : ℕ) → 1 ≤ length (decimal n)
 unfolding decimal
 decimal-some n = by-test (ltb n 10) (λ e. rw e (omega arith)) (λ e. rw (e, length-append) (omega arith))
 
-pub decimal-worth : (n : ℕ) → n < 1000000 → worth 0 (decimal n) ≡ n
+pub decimal-value : (n : ℕ) → n < 10 ^ 20 → worth 0 (decimal n) ≡ n
 unfolding decimal
-decimal-worth n h = fine 20 n .value (omega arith)
+decimal-value n h = fine 20 n .value h
+
+pub decimal-worth : (n : ℕ) → n < 1000000 → worth 0 (decimal n) ≡ n
+decimal-worth n h = decimal-value n (omega arith)
 
 -- ---- no zero in front
 some-digit : (k n : ℕ) → 1 ≤ length (decimalIn (suc k) n)

@@ -7,7 +7,7 @@ use lib.Dec.{ltb, leb, eqb}
 use Rattle.laws.specs.Checks.{_⇒_, first}
 use Rattle.text.specs.Number.{numberAt}
 use Rattle.text.specs.declared.number.Number.{Number}
-use Rattle.text.specs.declared.number.Number.the-variants.{Missing, Value}
+use Rattle.text.specs.declared.number.Number.the-variants.{Missing, TooLong, Value}
 use Rattle.text.specs.declared.field.Field.{Field}
 use Rattle.text.specs.declared.field.Field.the-variants.{Bad, Good}
 
@@ -29,6 +29,7 @@ fieldIs (a ∷ w) (b ∷ s) = cond (eqb b a) (fieldIs w s) false
 -- a number from least to most that is the whole field, and where it ends
 abbrev pub within : ℕ → ℕ → List ℕ → Number → Field
 within least most s Missing = Bad
+within least most s (TooLong end) = Bad
 within least most s (Value v end) = first
     ((not (endsField s end) ⇒ Bad)
     ∷ (ltb v least ⇒ Bad)

@@ -59,6 +59,7 @@ pub fn field_within(s: &[u8], at: usize, least: u64, most: u64) -> Field
 {
     match crate::number::number_at(s, at) {
         Number::Missing => Field::Bad,
+        Number::TooLong(_) => Field::Bad,
         Number::Value(value, end) => {
             if !ends_field(s, end) {
                 return Field::Bad;

@@ -1,20 +1,19 @@
 // A number: a run of decimal digits.
 ghost use mathlib.Core.Path.{_≡_};
-ghost use Prim.Native.Nat.{_≤_};
+ghost use Prim.Native.Nat.{_≤_, _<_};
 ghost use Rattle.words.specs.Digits.{isDigit};
 ghost use Rattle.text.specs.Number.{grown, foundNumber, numberAt};
 
-// What stands at a place: no digit, or a number and the place behind it.
+// What stands at a place: no digit, a run of too many, or a number, the latter two with the place behind them.
 pub enum Number {
     Missing,
+    TooLong(usize),
     Value(u64, usize),
 }
 
 impl Number {
-    // More digits than these are out of range.
+    // More digits than these, zeros included, are out of range.
     pub const MOST_DIGITS: usize = 6;
-    // What an out-of-range run counts as: above every limit.
-    pub const OUT_OF_RANGE: u64 = 1000000;
 }
 
 pub fn is_digit(b: u8) -> bool
@@ -26,27 +25,29 @@ pub fn is_digit(b: u8) -> bool
     b <= b'9'
 }
 
-// The number after one digit more, behind so many.
+// The number after one digit more, behind so many; behind six it stays, for the run is too long.
 fn grown(value: u64, digits: usize, digit: u8) -> u64
-    requires { ⌜ (value ≤ 1000000) × (48 ≤ digit) × (digit ≤ 57) ⌝ }
+    requires { ⌜ (value < 1000000) × (48 ≤ digit) × (digit ≤ 57) ⌝ }
     ensures { λ r. ⌜ r ≡ grown value digits digit ⌝ }
 {
     if digits < Number::MOST_DIGITS {
         value * 10 + ((digit - b'0') as u64)
     } else {
-        Number::OUT_OF_RANGE
+        value
     }
 }
 
-// What so many digits are that end before next.
+// What so many digits worth a value are that end before next.
 fn found(value: u64, digits: usize, next: usize) -> Number
     ensures { λ r. ⌜ r ≡ foundNumber value digits next ⌝ }
 {
     if digits == 0 {
-        Number::Missing
-    } else {
-        Number::Value(value, next)
+        return Number::Missing;
     }
+    if Number::MOST_DIGITS < digits {
+        return Number::TooLong(next);
+    }
+    Number::Value(value, next)
 }
 
 // The number at a place.

@@ -1,15 +1,18 @@
 // Runs worked values of document 01, those that are too long to be proved, and cases of its rules, and prints each with what was
 // expected.
 use code::CodeRead;
+use code::limits::Smallest;
 use hub::Answer;
 use hub::Hub;
 use libc::STDOUT_FILENO;
+use pace::Micros;
 use request::Request;
 use words::Fields;
 use writer::Form;
 use writer::sendir::Command;
 use writer::sendir::Written;
 
+mod carriers;
 mod fill;
 mod handing;
 
@@ -135,8 +138,15 @@ fn many_pairs() {
     code_vector(b"261 lettered", front(&buf, 263), CodeRead::Fault(20));
 }
 
-// A command of which only the counts matter, written lettered.
-fn lettered_vector(label: &[u8], counts: &[u64], expected: &[u8]) {
+fn say_form(form: Form) {
+    match form {
+        Form::Plain => say(b"plain "),
+        Form::Lettered => say(b"lettered "),
+    }
+}
+
+// A command of which only the counts matter, written in a form.
+fn written_vector(form: Form, label: &[u8], counts: &[u64], expected: &[u8]) {
     let mut buf = [0u8; 4096];
     let fields = Fields {
         id: 1,
@@ -149,12 +159,12 @@ fn lettered_vector(label: &[u8], counts: &[u64], expected: &[u8]) {
         port: 1,
         fields,
     };
-    say(b"lettered ");
+    say_form(form);
     say(label);
     say(b": expected ");
     say(expected);
     say(b", got ");
-    match writer::sendir::write_sendir(&mut buf, Form::Lettered, command, counts) {
+    match writer::sendir::write_sendir(&mut buf, form, command, counts) {
         Written::Refused(number) => {
             say_number(number);
             say_verdict(false);
@@ -170,17 +180,70 @@ fn lettered_vector(label: &[u8], counts: &[u64], expected: &[u8]) {
 fn sixteen_pairs() {
     let mut counts = [0u64; 64];
     fill::fill_counts(&mut counts, false);
-    lettered_vector(
+    written_vector(
+        Form::Lettered,
         b"sixteen, then again",
         &counts,
         b"sendir,1:1,1,40000,20,1,4,9,5,9,6,9,7,9,8,9,9,9,10,9,11,9,12,9,13,9,14,9,15,9,16,9,17,9,18,9,19,9ABCDEFGHIJKLMNO19,9",
     );
     fill::fill_counts(&mut counts, true);
-    lettered_vector(
+    written_vector(
+        Form::Lettered,
         b"sixteen, each doubled",
         &counts,
         b"sendir,1:1,1,40000,20,1,4,9A5,9B6,9C7,9D8,9E9,9F10,9G11,9H12,9I13,9J14,9K15,9L16,9M17,9N18,9O19,9,19,9",
     );
+}
+
+// Document 01's six pairs in both forms: all spelled, and each later occurrence of a lettered pair as its letter.
+fn both_forms() {
+    let counts = [4u64, 5, 4, 5, 8, 9, 4, 5, 8, 9, 8, 9];
+    written_vector(
+        Form::Plain,
+        b"six pairs",
+        &counts,
+        b"sendir,1:1,1,40000,20,1,4,5,4,5,8,9,4,5,8,9,8,9",
+    );
+    written_vector(
+        Form::Lettered,
+        b"six pairs",
+        &counts,
+        b"sendir,1:1,1,40000,20,1,4,5A8,9ABB",
+    );
+}
+
+// The smallest legal count for a frequency; of a refusal its number, and apart.
+fn smallest_vector(freq: u64, refused: bool, expected: u64) {
+    say(b"smallest count at ");
+    say_number(freq);
+    say(b": expected ");
+    say_number(expected);
+    say(b", got ");
+    match code::limits::smallest_count(freq) {
+        Smallest::Refused(number) => {
+            say_number(number);
+            say_verdict(refused && number == expected);
+        }
+        Smallest::Count(count) => {
+            say_number(count);
+            say_verdict(!refused && count == expected);
+        }
+    }
+}
+
+// 12,500 counts of it reach the frequency, and it is 4 at least.
+fn smallest_counts() {
+    smallest_vector(14999, true, 5);
+    smallest_vector(15000, false, 4);
+    smallest_vector(40000, false, 4);
+    smallest_vector(48000, false, 4);
+    smallest_vector(50000, false, 4);
+    smallest_vector(50001, false, 5);
+    smallest_vector(60000, false, 5);
+    smallest_vector(487500, false, 39);
+    smallest_vector(487501, false, 40);
+    smallest_vector(500000, false, 40);
+    smallest_vector(500001, true, 5);
 }
 
 // A line's fault, 0 where it has none.
@@ -256,7 +319,7 @@ fn limits() {
 
 // A wait of a fresh hub: its refusal, 0 where it is taken.
 fn wait_vector(micros: u64, expected: u64) {
-    let waited = hub::wait::wait(Hub::fresh(), micros);
+    let waited = hub::wait::wait(Hub::fresh(), Micros(micros));
     let decided = waited.decided;
     let answer = decided.answer;
     let got = match answer {
@@ -278,9 +341,12 @@ fn main() {
     accepted();
     handing::vectors();
     many_pairs();
+    both_forms();
     sixteen_pairs();
+    smallest_counts();
     long_lines();
     limits();
     wait_vector(1000000000, 0);
     wait_vector(1000000001, 103);
+    carriers::vectors();
 }

@@ -1,7 +1,7 @@
 -- The table of worked values holds.
 use mathlib.Core.Path.{refl}
 use native.Mathlib.Omega.{arith}
-use Rattle.text.specs.Number.{number, numberOf, numberAt}
+use Rattle.text.specs.Number.{numberOf, numberAt}
 use Rattle.text.specs.Field.{endsField, afterComma, fieldWithin}
 use Rattle.words.specs.Decimal.{decimal}
 use Rattle.code.specs.Limits.{legal}
@@ -11,7 +11,7 @@ use Rattle.code.specs.Next.{isLetter, countAt, offAt, afterOn, spelledAt, lette
 use Rattle.code.specs.Read.{readCode}
 use Rattle.code.proofs.Smallest.{shortest-count}
 use Rattle.request.specs.Name.{nameAt}
-use Rattle.request.specs.Address.{portAt, addressAt, addressFault}
+use Rattle.request.specs.Address.{partAt, portAt, addressAt, addressFault}
 use Rattle.request.specs.Fields.{capped, sentAt}
 use Rattle.request.specs.Request.{addressed, readRequest}
 use Rattle.writer.specs.CodeText.{codeText}
@@ -28,7 +28,7 @@ use Rattle.hub.specs.Wait.{waitedStep}
 use Rattle.worked.specs.Table.{Holds, table}
 
 pub worked : Holds table
-unfolding number numberOf numberAt endsField afterComma fieldWithin decimal legal samePair learnt isLetter countAt offAt afterOn spelledAt letterAt begunAt nextPair readCode nameAt portAt addressAt addressFault capped sentAt addressed readRequest codeText endOf firstMicro passed replyText isNumber within isAddress isCount codeIn total done complete finish started onAir set-IR getstate sendir request runOf sendStep codeStep sentStep lineStep waitedStep
+unfolding numberOf numberAt endsField afterComma fieldWithin decimal legal samePair learnt isLetter countAt offAt afterOn spelledAt letterAt begunAt nextPair readCode nameAt partAt portAt addressAt addressFault capped sentAt addressed readRequest codeText endOf firstMicro passed replyText isNumber within isAddress isCount codeIn total done complete finish started onAir set-IR getstate sendir request runOf sendStep codeStep sentStep lineStep waitedStep
 worked = (
   (refl, refl),
   (

@@ -22,7 +22,7 @@ use Rattle.words.specs.declared.Fields.{Fields}
 use Rattle.request.specs.declared.fields.Sent.the-variants as sent
 use Rattle.request.specs.declared.Request.the-variants.{SendIr}
 use Rattle.request.specs.Name.{getdevices, getversion, nameAt}
-use Rattle.request.specs.Address.{portAt, addressAt, addressFault}
+use Rattle.request.specs.Address.{partAt, portAt, addressAt, addressFault}
 use Rattle.request.specs.Fields.{capped, fieldsOf, sentAt}
 use Rattle.request.specs.Request.{isPrintable, addressed, readRequest}
 use Rattle.writer.specs.Sendir.{sendirHead}
@@ -88,7 +88,7 @@ one = refl
 
 address-back : (s : List ℕ) (port : ℕ) (rest : List ℕ) → port < 1000000 → drop 7 s ≡ 49 ∷ 58 ∷ (decimal port ++ (44 ∷ rest))
     → addressAt s 7 ≡ At 1 port (9 + length (decimal port))
-unfolding addressAt portAt
+unfolding addressAt portAt partAt
 address-back s port rest h e =
     let m : numberAt s 7 ≡ Value 1 8 =
     rw one at (number-behind s 7 1 (58 ∷ (decimal port ++ (44 ∷ rest))) (rw one e) (omega arith) refl) in

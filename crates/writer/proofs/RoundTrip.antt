@@ -1,4 +1,4 @@
--- Every line that the writer gives is read as the command and the pairs that were given.
+-- Every line that the writer gives is read, from its buffer, as the command and the pairs that were given.
 use Prim.Native.Nat.{ℕ, _+_, _%_, _≤_}
 use mathlib.Core.Path.{_≡_, refl, _∙_}
 use mathlib.Core.Bool.{true, not}
@@ -6,9 +6,11 @@ use mathlib.Core.List.{List, [], _∷_}
 use native.Mathlib.Omega.{arith}
 use borrow.Author.Tests.{not-false, ltb-true, le-ltb, le-leb}
 use lib.Dec.{ltb, eqb}
-use lib.ListN.{length}
+use lib.ListN.{length, take}
 use Rattle.laws.specs.Lists.{all}
+use Rattle.laws.specs.Put.{over}
 use Rattle.laws.proofs.Choice.{cond-case}
+use Rattle.laws.proofs.Put.{over-front}
 use Rattle.words.specs.Digits.{isDigit}
 use Rattle.text.proofs.Reading.{digit-range}
 use Rattle.words.specs.declared.Pair.{Pair}
@@ -18,15 +20,16 @@ use Rattle.code.specs.Accepted.{Accepted}
 use Rattle.request.specs.Request.{isPrintable}
 use Rattle.writer.specs.declared.Form.{Form}
 use Rattle.writer.specs.declared.sendir.Command.{Command}
+use Rattle.writer.specs.declared.sendir.Written.the-variants.{Refused, Line}
 use Rattle.writer.specs.CodeText.{items, codeText}
 use Rattle.writer.specs.Given.{pairsOf, countsGiven, addressWithin, fieldsWithin}
-use Rattle.writer.specs.Sendir.{sendirLine, Outcome, refused, line, codeOutcome, outcome}
+use Rattle.writer.specs.Sendir.{sendirLine, Outcome, refused, line, codeOutcome, outcome, Wrote}
 use Rattle.writer.specs.RoundTrip.{ReadsBack}
 use Rattle.writer.proofs.Limits.{AddressIn, FieldsIn, address-in, fields-in, small, given-accepted}
 use Rattle.writer.proofs.ReadBack.{code-back}
 use Rattle.writer.proofs.Heads.{fieldsIn, line-is, head-back}
 use Rattle.writer.proofs.Bytes.{listed-all, text-all, head-few, code-few}
-use Rattle.writer.proofs.Forms.{letters-low}
+use Rattle.writer.proofs.Forms.{items-low}
 
 -- ---- what is written was taken
 record Taken (form : Form) (c : Command) (counts text : List ℕ) : Type 0 where
@@ -84,14 +87,14 @@ letter-printable i e = rw (le-ltb (65 + i) 32 (omega arith), le-leb (65 + i) 126
 code-printable : (form : Form) (ps : List Pair) → all isPrintable (codeText form ps) ≡ true
 unfolding codeText
 code-printable form ps =
-    text-all isPrintable digit-printable refl (λ i. ltb i 15) letter-printable (items form [] ps) (letters-low form ps)
+    text-all isPrintable digit-printable refl (λ i. ltb i 15) letter-printable (items form [] ps) (items-low form ps)
 
 code-fits : (form : Form) {freq : ℕ} {ps : List Pair} → Accepted freq ps → length (codeText form ps) ≤ 3640
 code-fits form {freq} {ps} a = omega (arith, code-few form freq ps (a .allowed), a .most)
 
-pub round-trip : (room : ℕ) (form : Form) (c : Command) (counts text : List ℕ) → outcome room form c counts ≡ line text
+line-back : (room : ℕ) (form : Form) (c : Command) (counts text : List ℕ) → outcome room form c counts ≡ line text
     → ReadsBack c (pairsOf counts) text
-round-trip room form c counts text e =
+line-back room form c counts text e =
     let t = taken room form c counts text e in
     let code = codeText form (pairsOf counts) in
     let f = t .written ∙ line-is (c .port) (c .fields) code in
@@ -100,3 +103,20 @@ round-trip room form c counts text e =
     rw f (listed-all isPrintable digit-printable refl (c .port ∷ fieldsIn (c .fields)) code (code-printable form (pairsOf counts))) in
     let h = head-back text code (t .address) (t .fields) few fine f in
     record { place = h .place; request = h .request; code = code-back form text (h .place) (t .given) (h .behind) }
+
+-- the bytes of the buffer up to the length that the writer answered
+pub round-trip : {before : List ℕ} {form : Form} {c : Command} {counts after : List ℕ} {n : ℕ} → Wrote before form c counts after (Line n)
+    → ReadsBack c (pairsOf counts) (take n after)
+round-trip {before} {form} {c} {counts} {after} {n} w = go (outcome (length before) form c counts) refl
+  where
+    go : (o : Outcome) → outcome (length before) form c counts ≡ o → ReadsBack c (pairsOf counts) (take n after)
+    go (refused number) e =
+        let f : Line n ≡ Refused number = rw e at (w .answer) in
+        let z : _≡_ {A = ℕ} 0 1 = cc in
+        absurd (omega arith)
+    go (line text) e =
+        let f : Line n ≡ Line (length text) = rw e at (w .answer) in
+        let k : n ≡ length text = cc in
+        let m : n ≡ 0 + length text = omega arith in
+        let l : after ≡ over before 0 text = rw e at (w .laid) in
+        rw (l, m, over-front before 0 text (omega arith)) (line-back (length before) form c counts text e)

@@ -1,12 +1,13 @@
 -- Laws of the writer of a sendir line: each refusal writes nothing, and the line is laid down whole.
 use Prim.Native.Nat.{ℕ, _*_, _≤_, _<_}
-use mathlib.Core.Path.{_≡_, ap, _∙_}
+use mathlib.Core.Path.{_≡_, sym, ap, _∙_}
 use native.Mathlib.Nat.{zero-add}
 use mathlib.Core.Bool.{true, false}
 use mathlib.Core.List.{List}
 use borrow.Author.Tests.{lt-ltb, le-ltb}
 use lib.ListN.{length}
 use Rattle.laws.specs.Put.{Put}
+use Rattle.laws.proofs.Put.{over-nothing}
 use Rattle.words.specs.declared.Pair.{Pair}
 use Rattle.code.specs.Read.{pairs, fault}
 use Rattle.writer.specs.declared.Form.{Form}
@@ -17,7 +18,7 @@ use Rattle.writer.specs.Sendir.{refused, outcome, sendirLine, Wrote}
 
 module _ {before : List ℕ} {form : Form} {c : Command} {counts : List ℕ} where
   nothing : {number : ℕ} → outcome (length before) form c counts ≡ refused number → Wrote before form c counts before (Refused number)
-  nothing e = record { answer = rw e; laid = rw e }
+  nothing e = record { answer = rw e; laid = rw e (sym (over-nothing before 0)) }
 
   pub no-room : length before < 4096 → Wrote before form c counts before (Refused 105)
   unfolding outcome

@@ -8,7 +8,7 @@ use lib.ListN.{length, take, drop, getD, set, length-append, length-set}
 use Rattle.laws.specs.Bytes.{bytes}
 use Rattle.laws.specs.Put.{Put}
 use Rattle.laws.proofs.Lists.{drop-take-next, drop-take-end}
-use Rattle.laws.proofs.Put.{then, byte}
+use Rattle.laws.proofs.Put.{nothing, then, byte}
 use Rattle.words.specs.Decimal.{decimal}
 use Rattle.words.specs.declared.Pair.{Pair}
 use Rattle.code.specs.declared.letters.Letters.{Letters}
@@ -78,7 +78,7 @@ module _ {form : Form} {buf₀ : List ℕ} {at count : ℕ} {ps : List Pair} {bu
     (w : Writing form buf₀ at count ps buf t o after j) where
   pub writing-end : count ≤ j → Put buf₀ at (codeText form (take count ps)) buf o
   writing-end h =
-      w .goes (rw (drop-take-end ps count j (w .long) h) (record { place = omega arith; laid = refl }))
+      w .goes (rw (drop-take-end ps count j (w .long) h) (nothing buf o (omega (arith, w .room))))
 
   module _ (h : j < count) where
     abbrev q : Pair
@@ -105,7 +105,7 @@ module _ {form : Form} {buf₀ : List ℕ} {at count : ℕ} {ps : List Pair} {bu
         let n : placeOf q (held t) < length (held t) = omega (arith, at-most form (length (held t))) in
         step (item-letter form (held t) q m ∙ ap letter (sym e))
         (record { few = w .kept .few; counted = w .kept .counted; are = sym (learnt-known (held t) q n) })
-        (rw (front-letter after i) (byte buf o (65 + i))) (length-set buf o (65 + i)) (omega arith)
+        (rw (front-letter after i) (byte buf o (65 + i) (omega (arith, w .room)))) (length-set buf o (65 + i)) (omega arith)
 
     pub writing-spelled : {i o′ : ℕ} {t′ : Letters} {buf′ : List ℕ} → i ≡ placeOf q (held t) → inUse form (t .count) ≤ i
         → Put buf o (comma after ++ spelling q) buf′ o′ × (o′ ≤ o + 14) → length buf′ ≡ length buf → Kept t′ (learnt (held t) q)

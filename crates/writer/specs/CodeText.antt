@@ -1,15 +1,20 @@
 -- A code's text. Document 01: "its code in plain text (all pairs spelled) or lettered text (every later occurrence of a
 -- lettered pair is its letter), numbers without leading zeros".
-use Prim.Native.Nat.{ℕ}
-use mathlib.Core.Bool.{cond}
+use Prim.Native.Nat.{ℕ, _<_}
+use mathlib.Core.Path.{_≡_}
+use mathlib.Core.Bool.{Bool, cond, _&&_, _||_}
 use mathlib.Core.List.{List, [], _∷_}
+use lib.Dec.{eqb, leb}
+use lib.ListN.{length, getD}
 use Rattle.laws.specs.Bytes.{bytes}
+use Rattle.words.specs.Digits.{isDigit}
 use Rattle.words.specs.Decimal.{decimal}
 use Rattle.words.specs.declared.Pair.{Pair}
+use Rattle.words.specs.Pairs.{pair}
 use Rattle.code.specs.declared.next.After.{After}
 use Rattle.code.specs.declared.next.After.the-variants.{Nothing, Spelling, Lettering}
 use Rattle.code.specs.Letters.{has, placeOf, learnt}
-use Rattle.lettered.specs.Lettered.{Item, spelled, letter, itemText, textOf}
+use Rattle.lettered.specs.Lettered.{Item, spelled, letter, itemText, textOf, lettered}
 use Rattle.writer.specs.declared.Form.{Form}
 use Rattle.writer.specs.declared.Form.the-variants.{Plain, Lettered}
 
@@ -27,8 +32,17 @@ abbrev pub items : Form → List Pair → List Pair → List Item
 items form letters [] = []
 items form letters (p ∷ ps) = itemOf form letters p ∷ items form (learnt letters p) ps
 
+-- how a pair is written behind others in lettered text: by the letter that it has by then, and spelled where it has none
+pub data LetteredAs (before : List Pair) (p : Pair) : Item → Type 0 where
+  by-letter : {i : ℕ} → i < length (lettered before) → getD (lettered before) i (pair 0 0) ≡ p → LetteredAs before p (letter i)
+  by-spelling : ((i : ℕ) → i < length (lettered before) → getD (lettered before) i (pair 0 0) ≡ p → ⊥) → LetteredAs before p (spelt p)
+
 unfoldable pub codeText : Form → List Pair → List ℕ
 codeText form ps = textOf (items form [] ps)
+
+-- a byte of a code's text: one of A to O, a digit or a comma
+abbrev pub codeByte : ℕ → Bool
+codeByte b = (leb 65 b && leb b 79) || (isDigit b || eqb b 44)
 
 -- ---- what the writer's small functions give
 

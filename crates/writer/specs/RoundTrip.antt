@@ -1,7 +1,7 @@
 -- What it is that a written line reads back. The line reader takes it for a sendir to the command's connector with the
 -- command's fields, the repeat as capped, and says where the code begins; from there the code reader finds the pairs that
--- were given, and no others. That every line that the writer gives reads back is the theorem `round-trip` of
--- proofs/RoundTrip.antt.
+-- were given, and no others. That what the writer leaves at the start of its buffer reads back, as many bytes as it says, is
+-- the theorem `round-trip` of proofs/RoundTrip.antt.
 use Prim.Native.Nat.{ℕ}
 use mathlib.Core.Path.{_≡_}
 use mathlib.Core.List.{List}

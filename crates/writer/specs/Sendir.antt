@@ -6,9 +6,9 @@ use mathlib.Core.Bool.{cond, not}
 use mathlib.Core.List.{List, [], _∷_, _++_}
 use lib.ListN.{length}
 use lib.Dec.{ltb}
-use lib.Seq.{sets}
 use Rattle.laws.specs.Bytes.{bytes}
 use Rattle.laws.specs.Checks.{_⇒_, first}
+use Rattle.laws.specs.Put.{over}
 use Rattle.words.specs.Decimal.{decimal}
 use Rattle.words.specs.declared.Pair.{Pair}
 use Rattle.code.specs.Limits.{offsetWithin}
@@ -61,7 +61,7 @@ bytesOf (line text) = text
 
 pub record Wrote (before : List ℕ) (form : Form) (c : Command) (counts after : List ℕ) (r : Written) : Type 0 where
   pub answer : r ≡ answerOf (outcome (length before) form c counts)
-  pub laid : after ≡ sets before 0 (bytesOf (outcome (length before) form c counts))
+  pub laid : after ≡ over before 0 (bytesOf (outcome (length before) form c counts))
 
 -- numbers of at most six digits, as the head's writer asks for
 pub record Small (port : ℕ) (f : Fields) : Type 0 where

@@ -6,6 +6,6 @@ pub enum Form {
     Lettered,
 }
 
-pub mod codetext;
-pub mod given;
+mod codetext;
+mod given;
 pub mod sendir;

@@ -1,5 +1,4 @@
 use mathlib.Core.Path.{sym, _∙_}
-use native.Mathlib.Omega.{arith}
 use Rattle.reader.proofs.Pieces.{standing-sound, handed-is}
 use borrow.Author.Needs.{needs}
 use Rattle.reader.proofs.next_from.Statement.{statement}
@@ -26,14 +25,11 @@ pair-handed-requires c κs = standing-sound (c .before .before .before .before .
 enum-known-i : tie.Need-enum-known-i
 enum-known-i c = search needs
 
-mul-pair-handed : tie.Need-mul-pair-handed
-mul-pair-handed c = omega (arith, standing-sound (c .before .before .before .before .before .before .before .args .progress) _ _ (sym (c .before .before .before .before .next-pair .ensures) ∙ c .before .before .i .given .1) .1, c .before .before .before .before .before .before .before .pre .few)
-
-array-copy-out-pair-handed : tie.Need-array-copy-out-pair-handed
-array-copy-out-pair-handed c = omega (arith, standing-sound (c .before .before .before .before .before .before .before .args .progress) _ _ (sym (c .before .before .before .before .next-pair .ensures) ∙ c .before .before .i .given .1) .1, c .before .before .before .before .before .before .before .pre .few)
+pair-of-requires : tie.Need-pair-of-requires
+pair-of-requires c κs = search needs
 
 pair-handed-requires-2 : tie.Need-pair-handed-requires-2
-pair-handed-requires-2 c κs = standing-sound (c .before .before .before .before .before .before .before .before .args .progress) _ _ (sym (c .before .before .before .before .before .next-pair .ensures) ∙ c .before .before .before .i .given .1) .0
+pair-handed-requires-2 c κs = standing-sound (c .before .before .before .before .before .before .before .args .progress) _ _ (sym (c .before .before .before .before .next-pair .ensures) ∙ c .before .before .i .given .1) .0
 
 returns : tie.Need-returns
 returns c = sym (handed-is _ _ _ (sym (c .before .before .next-pair .ensures) ∙ c .enum-told .given .1))
@@ -42,10 +38,10 @@ returns-2 : tie.Need-returns-2
 returns-2 c = sym (handed-is _ _ _ (sym (c .before .before .before .next-pair .ensures) ∙ c .before .number .given .1))
 
 returns-3 : tie.Need-returns-3
-returns-3 c = c .pair-handed .ensures ∙ rw (c .before .learn .ensures .result) (sym (handed-is _ _ _ (sym (c .before .before .before .before .before .next-pair .ensures) ∙ c .before .before .before .on .given .1)))
+returns-3 c = c .pair-handed .ensures ∙ rw (c .before .learn .ensures) (sym (handed-is _ _ _ (sym (c .before .before .before .before .before .next-pair .ensures) ∙ c .before .before .before .on .given .1)))
 
 returns-4 : tie.Need-returns-4
-returns-4 c = c .pair-handed2 .ensures ∙ sym (handed-is _ _ _ (sym (c .before .before .before .before .before .before .next-pair .ensures) ∙ c .before .before .before .before .i .given .1))
+returns-4 c = c .pair-handed2 .ensures ∙ rw (c .before .pair-of .ensures) (sym (handed-is _ _ _ (sym (c .before .before .before .before .before .next-pair .ensures) ∙ c .before .before .before .i .given .1)))
 
 pub next-from-spec : {M : Type 1} → statement M
 next-from-spec =
@@ -58,8 +54,7 @@ next-from-spec =
     learn-requires
     pair-handed-requires
     enum-known-i
-    mul-pair-handed
-    array-copy-out-pair-handed
+    pair-of-requires
     pair-handed-requires-2
     returns
     returns-2

@@ -1,19 +1,19 @@
-use Prim.Native.Nat.{ℕ, suc, _+_}
+use Prim.Native.Nat.{ℕ, suc, _+_, _≤_}
 use mathlib.Core.Path.{_≡_, refl, _∙_}
 use mathlib.Core.List.{List, [], _∷_}
 use native.Mathlib.Numerals.{add-one}
 use native.Mathlib.Omega.{arith}
-use lib.ListN.{set, length-set}
+use lib.ListN.{length, set, length-set}
 use Rattle.laws.specs.Put.{Put}
-use Rattle.laws.proofs.Put.{then}
+use Rattle.laws.proofs.Put.{stored, then}
 use borrow.Author.Needs.{needs}
 use Rattle.reply.proofs.put_error_number.Statement.{statement}
 use Rattle.reply.proofs.put_error_number.Tie as tie
 
-three : (b : List ℕ) (at x y z : ℕ) → Put b at (x ∷ y ∷ z ∷ []) (set (set (set b at x) (at + 1) y) (at + 2) z) (at + 3)
-three b at x y z =
+three : (b : List ℕ) (at x y z : ℕ) → at + 3 ≤ length b → Put b at (x ∷ y ∷ z ∷ []) (set (set (set b at x) (at + 1) y) (at + 2) z) (at + 3)
+three b at x y z h =
     let e : at + 2 ≡ suc (suc at) = omega arith in
-    record { place = refl; laid = rw (add-one, e) }
+    stored refl h (rw (add-one, e))
 
 slice-aggregate-put-word : tie.Need-slice-aggregate-put-word
 slice-aggregate-put-word c = search needs
@@ -67,7 +67,7 @@ same-length : tie.Need-same-length
 same-length c = c .before .before .put-word2 .kept .0 ∙ simp length-set (c .before .before .before .before .before .before .before .put-word .kept .0)
 
 returns : tie.Need-returns
-returns c = then (then (c .before .before .before .before .before .before .before .put-word .ensures) (three _ _ _ _ _)) (c .before .before .put-word2 .ensures)
+returns c = then (then (c .before .before .before .before .before .before .before .put-word .ensures) (three _ _ _ _ _ (omega arith))) (c .before .before .put-word2 .ensures)
 
 pub put-error-number-spec : {M : Type 1} → statement M
 put-error-number-spec =

@@ -4,6 +4,7 @@ use native.Mathlib.Nat.{add-zero}
 use native.Mathlib.Omega.{arith}
 use lib.ListN.{length, take}
 use lib.Seq.{sets, slice-empty}
+use Rattle.laws.proofs.Storing.{stores-stored}
 use Rattle.meaning.specs.Time.{countsOf}
 use Rattle.store.proofs.Turns.{filled, fill}
 use Rattle.store.proofs.keep.Statement.{statement}
@@ -65,7 +66,7 @@ loop-again c =
 returns : tie.Need-returns Inv-loop μ-loop
 returns c =
     let e : c .before .loop .i ≡ c .before .before .args .count = omega arith in
-    sym (c .before .loop .inv .2 ∙ rw (e, slice-empty))
+    sym (c .before .loop .inv .2 ∙ rw (e, slice-empty)) ∙ stores-stored _ _ _
 
 pub keep-spec : {M : Type 1} → statement M
 keep-spec =

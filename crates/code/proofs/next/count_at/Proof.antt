@@ -12,6 +12,9 @@ number-at-requires c κs = search needs
 enum-told : tie.Need-enum-told
 enum-told c = search needs
 
+enum-told-2 : tie.Need-enum-told-2
+enum-told-2 c = search needs
+
 enum-known-value : tie.Need-enum-known-value
 enum-known-value c = search needs
 
@@ -27,11 +30,15 @@ returns c = rw (sym (c .before .before .number-at .ensures) ∙ c .enum-told .gi
 
 returns-2 : tie.Need-returns-2
 unfolding countAt
-returns-2 c = rw (sym (c .before .before .before .before .before .number-at .ensures) ∙ c .before .before .before .value .given .1, sym (c .before .is-legal .ensures) ∙ c .if1 .taken)
+returns-2 c = rw (sym (c .before .before .number-at .ensures) ∙ c .enum-told2 .given .1)
 
 returns-3 : tie.Need-returns-3
 unfolding countAt
-returns-3 c = rw (sym (c .before .before .before .before .before .number-at .ensures) ∙ c .before .before .before .value .given .1, sym (c .before .is-legal .ensures) ∙ c .if1 .left)
+returns-3 c = rw (sym (c .before .before .before .before .before .number-at .ensures) ∙ c .before .before .before .value .given .1, sym (c .before .is-legal .ensures) ∙ c .if1 .taken)
+
+returns-4 : tie.Need-returns-4
+unfolding countAt
+returns-4 c = rw (sym (c .before .before .before .before .before .number-at .ensures) ∙ c .before .before .before .value .given .1, sym (c .before .is-legal .ensures) ∙ c .if1 .left)
 
 pub count-at-spec : {M : Type 1} → statement M
 count-at-spec =
@@ -39,9 +46,11 @@ count-at-spec =
     (tie.spec
     number-at-requires
     enum-told
+    enum-told-2
     enum-known-value
     is-legal-requires
     cast-t10
     returns
     returns-2
-    returns-3)
+    returns-3
+    returns-4)

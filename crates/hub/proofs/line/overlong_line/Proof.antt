@@ -1,6 +1,7 @@
-use mathlib.Core.Path.{refl}
+use mathlib.Core.Path.{sym}
 use borrow.Author.Tests.{lt-ltb, le-ltb}
 use Rattle.hub.specs.Line.{overlongStep}
+use Rattle.laws.proofs.Put.{over-nothing}
 use borrow.Author.Needs.{needs}
 use Rattle.hub.proofs.line.overlong_line.Statement.{statement}
 use Rattle.hub.proofs.line.overlong_line.Tie as tie
@@ -10,14 +11,14 @@ refused-requires c κs = search needs
 
 returns : tie.Need-returns
 unfolding overlongStep
-returns c = rw (lt-ltb _ _ (c .before .if1 .taken)) (record { result = c .refused .ensures; laid = refl })
+returns c = rw (lt-ltb _ _ (c .before .if1 .taken)) (record { result = c .refused .ensures; laid = sym (over-nothing _ 0) })
 
 refused-requires-2 : tie.Need-refused-requires-2
 refused-requires-2 c κs = search needs
 
 returns-2 : tie.Need-returns-2
 unfolding overlongStep
-returns-2 c = rw (le-ltb _ _ (c .before .before .if1 .left), lt-ltb _ _ (c .before .if2 .taken)) (record { result = c .refused2 .ensures; laid = refl })
+returns-2 c = rw (le-ltb _ _ (c .before .before .if1 .left), lt-ltb _ _ (c .before .if2 .taken)) (record { result = c .refused2 .ensures; laid = sym (over-nothing _ 0) })
 
 error-requires : tie.Need-error-requires
 error-requires c κs = search needs

@@ -1,5 +1,6 @@
-use mathlib.Core.Path.{refl}
+use mathlib.Core.Path.{refl, sym}
 use native.Mathlib.Nat.{zero-add}
+use Rattle.laws.proofs.Put.{over-nothing}
 use borrow.Author.Needs.{needs}
 use Rattle.hub.proofs.line.written.Statement.{statement}
 use Rattle.hub.proofs.line.written.Tie as tie
@@ -17,10 +18,10 @@ put-reply-requires : tie.Need-put-reply-requires
 put-reply-requires c κs = search needs
 
 returns : tie.Need-returns
-returns c = rw (c .enum-told .given .1) (record { result = refl; laid = refl })
+returns c = rw (c .enum-told .given .1) (record { result = refl; laid = sym (over-nothing _ 0) })
 
 returns-2 : tie.Need-returns-2
-returns-2 c = rw (c .enum-told2 .given .1) (record { result = refl; laid = refl })
+returns-2 c = rw (c .enum-told2 .given .1) (record { result = refl; laid = sym (over-nothing _ 0) })
 
 same-length : tie.Need-same-length
 same-length c = search needs

@@ -22,19 +22,19 @@ element-copy-out-pass : tie.Need-element-copy-out-pass
 element-copy-out-pass c = search needs
 
 pass-requires : tie.Need-pass-requires
-pass-requires c κs = (c .before .before .pre .each 0 (omega arith) .sends, omega arith)
+pass-requires c κs = (c .before .before .before .pre .each 0 (omega arith) .sends, omega arith)
 
 element-copy-out-pass-2 : tie.Need-element-copy-out-pass-2
 element-copy-out-pass-2 c = search needs
 
 pass-requires-2 : tie.Need-pass-requires-2
-pass-requires-2 c κs = (c .before .before .before .before .pre .each 1 (omega arith) .sends, omega arith)
+pass-requires-2 c κs = (c .before .before .before .before .before .pre .each 1 (omega arith) .sends, omega arith)
 
 element-copy-out-pass-3 : tie.Need-element-copy-out-pass-3
 element-copy-out-pass-3 c = search needs
 
 pass-requires-3 : tie.Need-pass-requires-3
-pass-requires-3 c κs = (c .before .before .before .before .before .before .pre .each 2 (omega arith) .sends, omega arith)
+pass-requires-3 c κs = (c .before .before .before .before .before .before .before .pre .each 2 (omega arith) .sends, omega arith)
 
 none-requires-2 : tie.Need-none-requires-2
 none-requires-2 c κs = search needs

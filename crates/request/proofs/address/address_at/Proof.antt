@@ -5,8 +5,8 @@ use borrow.Author.Needs.{needs}
 use Rattle.request.proofs.address.address_at.Statement.{statement}
 use Rattle.request.proofs.address.address_at.Tie as tie
 
-number-at-requires : tie.Need-number-at-requires
-number-at-requires c κs = search needs
+part-at-requires : tie.Need-part-at-requires
+part-at-requires c κs = search needs
 
 enum-told : tie.Need-enum-told
 enum-told c = search needs
@@ -16,7 +16,7 @@ enum-known-m c = search needs
 
 returns : tie.Need-returns
 unfolding addressAt
-returns c = rw (sym (c .before .before .before .before .number-at .ensures) ∙ c .before .before .m .given .1, le-leb _ _ (c .if1 .taken))
+returns c = rw (sym (c .before .before .before .before .part-at .ensures) ∙ c .before .before .m .given .1, le-leb _ _ (c .if1 .taken))
 
 shared-slice-read-if2 : tie.Need-shared-slice-read-if2
 shared-slice-read-if2 c = search needs
@@ -25,7 +25,7 @@ returns-2 : tie.Need-returns-2
 unfolding addressAt
 returns-2 c =
     rw (
-      sym (c .before .before .before .before .before .before .number-at .ensures) ∙ c .before .before .before .before .m .given .1,
+      sym (c .before .before .before .before .before .before .part-at .ensures) ∙ c .before .before .before .before .m .given .1,
       lt-leb _ _ (c .before .before .if1 .left),
       ne-eqb _ _ (c .if2 .taken),
     )
@@ -38,13 +38,13 @@ port-at-requires c κs = search needs
 
 returns-3 : tie.Need-returns-3
 unfolding addressAt
-returns-3 c = rw (sym (c .before .before .number-at .ensures) ∙ c .enum-told .given .1)
+returns-3 c = rw (sym (c .before .before .part-at .ensures) ∙ c .enum-told .given .1)
 
 returns-4 : tie.Need-returns-4
 unfolding addressAt
 returns-4 c =
     rw (
-      sym (c .before .before .before .before .before .before .before .number-at .ensures) ∙ c .before .before .before .before .before .m .given .1,
+      sym (c .before .before .before .before .before .before .before .part-at .ensures) ∙ c .before .before .before .before .before .m .given .1,
       lt-leb _ _ (c .before .before .before .if1 .left),
       eq-eqb _ _ (c .before .if2 .left),
     ) (c .port-at .ensures)
@@ -53,7 +53,7 @@ pub address-at-spec : {M : Type 1} → statement M
 address-at-spec =
     tie.close
     (tie.spec
-    number-at-requires
+    part-at-requires
     enum-told
     enum-known-m
     returns

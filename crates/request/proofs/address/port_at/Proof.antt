@@ -4,8 +4,8 @@ use borrow.Author.Needs.{needs}
 use Rattle.request.proofs.address.port_at.Statement.{statement}
 use Rattle.request.proofs.address.port_at.Tie as tie
 
-number-at-requires : tie.Need-number-at-requires
-number-at-requires c κs = search needs
+part-at-requires : tie.Need-part-at-requires
+part-at-requires c κs = search needs
 
 enum-told : tie.Need-enum-told
 enum-told c = search needs
@@ -18,21 +18,21 @@ ends-field-requires c κs = search needs
 
 returns : tie.Need-returns
 unfolding portAt
-returns c = rw (sym (c .before .before .number-at .ensures) ∙ c .enum-told .given .1)
+returns c = rw (sym (c .before .before .part-at .ensures) ∙ c .enum-told .given .1)
 
 returns-2 : tie.Need-returns-2
 unfolding portAt
-returns-2 c = rw (sym (c .before .before .before .before .before .number-at .ensures) ∙ c .before .before .before .port .given .1, sym (c .before .ends-field .ensures) ∙ c .if1 .taken)
+returns-2 c = rw (sym (c .before .before .before .before .before .part-at .ensures) ∙ c .before .before .before .port .given .1, sym (c .before .ends-field .ensures) ∙ c .if1 .taken)
 
 returns-3 : tie.Need-returns-3
 unfolding portAt
-returns-3 c = rw (sym (c .before .before .before .before .before .number-at .ensures) ∙ c .before .before .before .port .given .1, sym (c .before .ends-field .ensures) ∙ c .if1 .left)
+returns-3 c = rw (sym (c .before .before .before .before .before .part-at .ensures) ∙ c .before .before .before .port .given .1, sym (c .before .ends-field .ensures) ∙ c .if1 .left)
 
 pub port-at-spec : {M : Type 1} → statement M
 port-at-spec =
     tie.close
     (tie.spec
-    number-at-requires
+    part-at-requires
     enum-told
     enum-known-port
     ends-field-requires

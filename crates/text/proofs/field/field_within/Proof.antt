@@ -11,6 +11,9 @@ number-at-requires c κs = search needs
 enum-told : tie.Need-enum-told
 enum-told c = search needs
 
+enum-told-2 : tie.Need-enum-told-2
+enum-told-2 c = search needs
+
 enum-known-value : tie.Need-enum-known-value
 enum-known-value c = search needs
 
@@ -35,7 +38,11 @@ returns-4 c = rw (sym (c .before .before .number-at .ensures) ∙ c .enum-told .
 
 returns-5 : tie.Need-returns-5
 unfolding fieldWithin
-returns-5 c = rw (sym (c .before .before .before .before .before .before .before .number-at .ensures) ∙ c .before .before .before .before .before .value .given .1, sym (c .before .before .before .ends-field .ensures) ∙ not-false _ (c .before .before .if1 .left), le-ltb _ _ (c .before .if2 .left), le-ltb _ _ (c .if3 .left))
+returns-5 c = rw (sym (c .before .before .number-at .ensures) ∙ c .enum-told2 .given .1)
+
+returns-6 : tie.Need-returns-6
+unfolding fieldWithin
+returns-6 c = rw (sym (c .before .before .before .before .before .before .before .number-at .ensures) ∙ c .before .before .before .before .before .value .given .1, sym (c .before .before .before .ends-field .ensures) ∙ not-false _ (c .before .before .if1 .left), le-ltb _ _ (c .before .if2 .left), le-ltb _ _ (c .if3 .left))
 
 pub field-within-spec : {M : Type 1} → statement M
 field-within-spec =
@@ -43,10 +50,12 @@ field-within-spec =
     (tie.spec
     number-at-requires
     enum-told
+    enum-told-2
     enum-known-value
     ends-field-requires
     returns
     returns-2
     returns-3
     returns-4
-    returns-5)
+    returns-5
+    returns-6)

@@ -1,16 +1,15 @@
-use borrow.Author.Tests.{eq-eqb, ne-eqb}
-use Rattle.text.specs.Number.{foundNumber}
+use borrow.Author.Tests.{eq-eqb, ne-eqb, lt-ltb, le-ltb}
 use Rattle.text.proofs.number.found.Statement.{statement}
 use Rattle.text.proofs.number.found.Tie as tie
-use borrow.Author.Needs.{needs}
 
 returns : tie.Need-returns
-unfolding foundNumber
 returns c = simp (eq-eqb _ _ (c .if1 .taken))
 
 returns-2 : tie.Need-returns-2
-unfolding foundNumber
-returns-2 c = simp (ne-eqb _ _ (c .if1 .left))
+returns-2 c = simp (ne-eqb _ _ (c .before .if1 .left), lt-ltb _ _ (c .if2 .taken))
+
+returns-3 : tie.Need-returns-3
+returns-3 c = simp (ne-eqb _ _ (c .before .if1 .left), le-ltb _ _ (c .if2 .left))
 
 pub found-spec : {M : Type 1} → statement M
-found-spec = tie.close (tie.spec returns returns-2)
+found-spec = tie.close (tie.spec returns returns-2 returns-3)

@@ -1,12 +1,10 @@
-use lib.ListN.{length, set, length-set, length-append}
-use lib.Seq.{sets, length-sets}
-use mathlib.Core.List.{[], _∷_}
+use lib.ListN.{length, length-set}
+use Rattle.laws.proofs.Put.{byte}
 use Rattle.text.proofs.Decimals.{decimal-small, decimal-longer, put-last}
-use denote.Ref.{now}
-use mathlib.Core.Path.{_≡_, refl, sym, ap, _∙_}
+use mathlib.Core.Path.{ap}
 use native.Mathlib.Omega.{arith}
 use borrow.Author.Needs.{needs}
-use Prim.Native.Nat.{ℕ, _<_, _+_, _/_, _%_}
+use Prim.Native.Nat.{ℕ, _<_}
 use borrow.Fn.Kinds.{In}
 use borrow.Fn.PlainCycle.{Measures, is, falls, and}
 use Rattle.text.proofs.write.put_number.Reads as put-number
@@ -66,7 +64,7 @@ put-number-returns :
     (put-number-below t, put-number.Post)
     (put-number-at t)
     put-number.Post
-put-number-returns t c = let e = decimal-small (c .before .before .args .n) (c .if1 .taken) in record { place = rw e; laid = rw e }
+put-number-returns t c = let e = decimal-small (c .before .before .args .n) (c .if1 .taken) in rw e (byte _ _ _ (omega (arith, ap length e)))
 
 put-number-put-number-requires : (t : ℕ) → put-number-lts.Need-put-number-requires (
   put-number-below t,
@@ -108,7 +106,7 @@ put-number-returns-2 : (t : ℕ) → put-number-lts.Need-returns-2 (
   put-number-below t,
   put-number.Post,
 ) (put-number-at t) put-number.Post
-put-number-returns-2 t c = put-last (c .before .before .before .before .if1 .left) (c .before .before .before .before .before .before .fits .n .fits) (c .before .before .put-number .ensures)
+put-number-returns-2 t c = put-last (c .before .before .before .before .if1 .left) (c .before .before .before .before .before .before .fits .n .fits) (c .before .before .put-number .ensures) (omega arith)
 
 pub +put-number-spec : {M : Type 1} → statement M
 +put-number-spec = close μ-put-number λ t. put-number-lts.spec (

@@ -5,7 +5,7 @@ use native.Mathlib.Omega.{arith}
 use denote.Ref.{now}
 use lib.ListN.{length, drop, length-set, drop-of-length-le}
 use lib.Seq.{sets}
-use Rattle.laws.proofs.Put.{copy-more}
+use Rattle.laws.proofs.Put.{stored, copy-more}
 use Rattle.text.proofs.write.put_word.Statement.{statement}
 use Rattle.text.proofs.write.put_word.Tie as tie
 use borrow.Author.Needs.{needs}
@@ -46,7 +46,7 @@ returns : tie.Need-returns Inv-loop μ-loop
 returns c =
     let i = c .before .loop .inv in
     let e : drop (c .before .loop .j) (now (c .before .before .args .w)) ≡ [] = drop-of-length-le (now (c .before .before .args .w)) (c .loop-test .left) in
-    record { place = omega arith; laid = rw e at (i .3) }
+    stored (omega arith) (omega arith) (rw e at (i .3))
 
 pub put-word-spec : {M : Type 1} → statement M
 put-word-spec =

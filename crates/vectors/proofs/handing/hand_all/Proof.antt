@@ -1,13 +1,12 @@
 use Prim.Native.Nat.{_-_}
 use native.Mathlib.Omega.{arith}
-use Rattle.reader.specs.Hands.{SoundProgress}
-use Rattle.reader.proofs.Pieces.{fresh-sound, handed-sound, handed-more}
+use Rattle.reader.proofs.Pieces.{handed-more}
 use Rattle.vectors.proofs.handing.hand_all.Statement.{statement}
 use Rattle.vectors.proofs.handing.hand_all.Tie as tie
 use borrow.Author.Needs.{needs}
 
 abbrev Inv-loop : tie.InvT-loop
-Inv-loop text counts fault progress₀ at₀ ok₀ progress at ok = SoundProgress progress
+Inv-loop text counts fault progress₀ at₀ ok₀ progress at ok = Unit {0}
 
 abbrev μ-loop : tie.MeasureT-loop
 μ-loop text counts fault progress₀ at₀ ok₀ progress at ok = 261 - progress .count
@@ -16,10 +15,10 @@ fresh-requires : tie.Need-fresh-requires Inv-loop μ-loop
 fresh-requires c κs = search needs
 
 loop-holds : tie.Need-loop-holds Inv-loop μ-loop
-loop-holds c = rw (c .fresh .ensures) (fresh-sound 40000)
+loop-holds c = tt
 
 hand-out-requires : tie.Need-hand-out-requires Inv-loop μ-loop
-hand-out-requires c κs = c .loop .inv
+hand-out-requires c κs = search needs
 
 enum-told : tie.Need-enum-told Inv-loop μ-loop
 enum-told c = search needs
@@ -64,7 +63,7 @@ loop-less : tie.Need-loop-less Inv-loop μ-loop
 loop-less c = omega (arith, handed-more (c .before .before .before .before .before .before .before .before .before .before .loop .progress) _ _ (c .before .before .before .before .before .before .before .before .before .hand-out .ensures) (c .before .before .before .before .before .before .before .piece2 .given .1))
 
 loop-again : tie.Need-loop-again Inv-loop μ-loop
-loop-again c = rw (c .before .before .before .before .before .before .before .before .before .hand-out .ensures) (handed-sound _ _ (c .before .before .before .before .before .before .before .before .before .before .loop .inv))
+loop-again c = tt
 
 pub hand-all-spec : {M : Type 1} → statement M
 hand-all-spec =

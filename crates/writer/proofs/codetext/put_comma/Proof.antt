@@ -1,8 +1,5 @@
-use Prim.Native.Nat.{_+_}
-use mathlib.Core.Path.{refl, sym}
 use native.Mathlib.Omega.{arith}
-use lib.ListN.{length-set}
-use Rattle.laws.proofs.Put.{byte}
+use Rattle.laws.proofs.Put.{nothing, byte}
 use borrow.Author.Needs.{needs}
 use Rattle.writer.proofs.codetext.put_comma.Statement.{statement}
 use Rattle.writer.proofs.codetext.put_comma.Tie as tie
@@ -23,16 +20,16 @@ enum-told-3 : tie.Need-enum-told-3
 enum-told-3 c = search needs
 
 returns : tie.Need-returns
-returns c = rw (c .enum-told .given .1) (record { place = omega arith; laid = refl })
+returns c = rw (c .enum-told .given .1) (nothing _ _ (omega arith))
 
 same-length : tie.Need-same-length
 same-length c = search needs
 
 returns-2 : tie.Need-returns-2
-returns-2 c = rw (c .enum-told2 .given .1) (byte _ _ _)
+returns-2 c = rw (c .enum-told2 .given .1) (byte _ _ _ (omega arith))
 
 returns-3 : tie.Need-returns-3
-returns-3 c = rw (c .enum-told3 .given .1) (record { place = omega arith; laid = refl })
+returns-3 c = rw (c .enum-told3 .given .1) (nothing _ _ (omega arith))
 
 pub put-comma-spec : {M : Type 1} → statement M
 put-comma-spec =

@@ -1,0 +1,373 @@
+-- A contact is answered with its last reading, and 028 where there is none; a relay with its last switching.
+use Prim.Native.Nat.{ℕ, suc, _+_, _%_, _/_, _≤_, _<_}
+use mathlib.Core.Path.{_≡_, refl, sym, ap, _∙_}
+use mathlib.Core.Bool.{Bool, true, false, cond, not, _&&_}
+use mathlib.Core.List.{List, [], _∷_, _++_, append-nil, append-assoc}
+use mathlib.Core.Option.{Option, none, some, Option·getD}
+use native.Mathlib.Omega.{arith}
+use borrow.Author.Tests.{le-ltb, ltb-true, eq-eqb, eqb-true, not-true, not-false}
+use lib.Dec.{ltb, eqb}
+use lib.ListN.{length, take, drop, getD, length-append}
+use Rattle.laws.specs.Bytes.{bytes}
+use Rattle.laws.specs.Checks.{first, isSome}
+use Rattle.laws.specs.Lists.{all, same, cut, part}
+use Rattle.laws.proofs.Choice.{clash, cond-case, by-test, not-both, and-left, and-right}
+use Rattle.laws.proofs.Checks.{through, past, first-all}
+use Rattle.laws.proofs.Lists.{all-append}
+use Rattle.words.specs.Decimal.{decimal, decimalIn, threeDigits}
+use Rattle.text.proofs.Decimals.{decimal-small}
+use Rattle.meaning.specs.Line as text
+use Rattle.meaning.specs.Log.{Deed, passed, setting, switched, event, changed, felt, contactOf, relayOf}
+use Rattle.meaning.specs.Table as table
+use Rattle.meaning.specs.Table.{refused, taken, replied, Judged, refusal, error, does, Row, row, no, reply, Call, line, overlong, reading, closing, waiting, answerOf, deedsOf, rowOf, judge, logged, logOf, field, getdevices, getversion, set-IR, get-IR, setstate, getstate, sendir, stopir, request}
+use Rattle.theorems.specs.Deeds.{Port, inSensor, Did, nothing, changes, reads, switches, starts, renews, halts, leaves, passes}
+use Rattle.theorems.specs.Contacts.{AsksState, isSetting, LastFelt, LastReading, isSwitching, LastSwitched, never, last}
+use Rattle.theorems.proofs.Rows.{by-rows, by-line}
+use Rattle.theorems.proofs.Deeds.{within-is, did}
+
+-- ---- what is answered
+module _ (log : List Deed) (p connection room : ℕ) (s : List ℕ) where
+  asked : (m : ℕ) → AsksState m p connection room s
+      → judge log (line connection room s)
+      ≡ cond (eqb m 2) (reply (text.line "state," 2 p (decimal (relayOf p log))) [])
+      (cond (not (inSensor p log)) (error 18 m p)
+      (cond (not (isSome (contactOf p log))) (error 28 m p) (reply (text.line "state," 1 p (decimal (Option·getD (contactOf p log) 0))) [])))
+  unfolding request getstate
+  asked m a =
+      rw (
+        le-ltb 7 connection (a .connection-most),
+        le-ltb room 128 (a .room-least),
+        le-ltb 4096 (length s) (a .size-most),
+        a .printed,
+        a .name,
+        a .address,
+        a .module-within,
+        a .port-within,
+        le-ltb 2 (length (cut 44 s)) (a .ends),
+        a .module-is,
+        a .port-is,
+      )
+
+  -- 028 "getstate on an unread contact"
+  pub no-reading-028 : AsksState 1 p connection room s → inSensor p log ≡ true → contactOf p log ≡ none
+      → judge log (line connection room s) ≡ error 28 1 p
+  no-reading-028 a mode e = asked 1 a ∙ rw (mode, e)
+
+  -- "`state,1:p,s` with the last reading"
+  pub last-reading-answered : (v : ℕ) → AsksState 1 p connection room s → inSensor p log ≡ true → contactOf p log ≡ some v
+      → judge log (line connection room s) ≡ reply (text.line "state," 1 p (decimal v)) []
+  last-reading-answered v a mode e = asked 1 a ∙ rw (mode, e)
+
+  pub last-setting-answered : AsksState 2 p connection room s
+      → judge log (line connection room s) ≡ reply (text.line "state," 2 p (decimal (relayOf p log))) []
+  last-setting-answered a = asked 2 a
+
+-- ---- no other reply has the text of a state
+
+-- a decimal of one digit
+two-digits : (n : ℕ) → ltb n 10 ≡ false → 2 ≤ length (decimal n)
+unfolding decimal
+two-digits n e = rw (e, length-append) (omega (arith, some-digit 18 (n / 10)))
+  where
+    some-digit : (k m : ℕ) → 1 ≤ length (decimalIn (suc k) m)
+    some-digit k m = cond-case (λ (l : List ℕ). 1 ≤ length l) (ltb m 10) _ _ (λ t. omega arith) (λ t. rw length-append (omega arith))
+
+one-digit : (n v : ℕ) → v < 10 → decimal n ++ (13 ∷ []) ≡ (48 + v % 10) ∷ 13 ∷ [] → n ≡ v
+one-digit n v h e =
+    by-test (ltb n 10)
+    (λ t.
+    let f : 48 + n % 10 ≡ 48 + v % 10 = ap (λ (l : List ℕ). getD l 0 0) (rw (decimal-small n (ltb-true n 10 t)) at e) in
+    omega (arith, ltb-true n 10 t))
+    (λ t. absurd (omega (arith, length-append (decimal n) (13 ∷ []), ap length e, two-digits n t)))
+
+state-text : (m q u p v : ℕ) → m < 10 → q < 10 → p < 10 → v < 10
+    → text.line "state," m q (decimal u) ≡ text.line "state," m p (decimal v) → (q ≡ p) × (u ≡ v)
+state-text m q u p v hm hq hp hv e =
+    let f = rw (decimal-small m hm, decimal-small q hq, decimal-small p hp, decimal-small v hv) at e in
+    let a : 48 + q % 10 ≡ 48 + p % 10 = ap (λ (l : List ℕ). getD l 8 0) f in
+    (omega arith, one-digit u v hv (ap (drop 10) f))
+
+-- no reply that begins so
+abbrev other : List ℕ → Judged → Bool
+other w (refusal n) = true
+other w (error n m p) = not (same w (take (length w) (text.line "ERR_" m p (threeDigits n))))
+other w (does (refused n) deeds) = true
+other w (does (taken l) deeds) = true
+other w (does (replied words told) deeds) = not (same w (take (length w) words))
+
+others : {A : Type 0} (w words : List ℕ) (told : Option ℕ) (j : Judged) → same w (take (length w) words) ≡ true → other w j ≡ true
+    → answerOf j ≡ replied words told → A
+others w words told (refusal n) s o e = clash (cc)
+others w words told (error n m p) s o e =
+    let f : text.line "ERR_" m p (threeDigits n) ≡ words = cc in
+    not-both s (not-true _ (rw f at o))
+others w words told (does (refused n) deeds) s o e = clash (cc)
+others w words told (does (taken l) deeds) s o e = clash (cc)
+others w words told (does (replied text to) deeds) s o e =
+    let f : text ≡ words = cc in
+    not-both s (not-true _ (rw f at o))
+
+abbrev otherRow : List ℕ → Row → Bool
+otherRow w r = all (λ k. other w (k .gives)) (r .checks) && other w (r .otherwise)
+
+module _ (log : List Deed) (p v : ℕ) (told : Option ℕ) (port : Port p) (small : v ≤ 1) where
+  record FromContact (j : Judged) : Type 0 where
+    tells : answerOf j ≡ replied (text.line "state," 1 p (decimal v)) told → (inSensor p log ≡ true) × (contactOf p log ≡ some v)
+
+  not-contact : (j : Judged) → other (bytes "state,1") j ≡ true → FromContact j
+  unfolding decimal
+  not-contact j o = record { tells = λ e. others (bytes "state,1") _ told j refl o e }
+
+  abbrev RowContact : Row → Type 0
+  RowContact r = FromContact (first (r .checks) (r .otherwise))
+
+  no-contact-row : (r : Row) → otherRow (bytes "state,1") r ≡ true → RowContact r
+  no-contact-row r o = not-contact (first (r .checks) (r .otherwise)) (first-all (other (bytes "state,1")) (r .checks) (r .otherwise) o)
+
+  contact-said : (q : ℕ) → Port q → inSensor q log ≡ true → (o : Option ℕ) → contactOf q log ≡ o → isSome o ≡ true
+      → replied (text.line "state," 1 q (decimal (Option·getD o 0))) none ≡ replied (text.line "state," 1 p (decimal v)) told
+      → (inSensor p log ≡ true) × (contactOf p log ≡ some v)
+  contact-said q a mode none c i e = not-both i refl
+  contact-said q a mode (some u) c i e =
+      let w : text.line "state," 1 q (decimal u) ≡ text.line "state," 1 p (decimal v) = cc in
+      let t = state-text 1 q u p v (omega arith) (omega (arith, a .most)) (omega (arith, port .most)) (omega arith) w in
+      let g : q ≡ p = t .0 in
+      (rw g at mode, rw g at c ∙ ap some (t .1))
+
+  module _ (connection : ℕ) (s : List ℕ) where
+    getstate-contact : RowContact (getstate log connection s)
+    unfolding getstate decimal
+    getstate-contact =
+        through FromContact (getstate log connection s .checks) (getstate log connection s .otherwise)
+        (past (not-contact _ refl) (λ _. past (not-contact _ refl) (λ _. past (not-contact _ refl) (λ port. past (not-contact _ refl) (λ _.
+        past (not-contact _ refl) (λ _. past (not-contact _ refl) (λ mode. past (not-contact _ refl) (λ read.
+        let w = within-is 1 3 (part 58 1 (field log connection s 1)) port in
+        record {
+          tells =
+              contact-said (table.p log connection s) (record { least = w .0; most = w .1 }) (not-false _ mode)
+              (contactOf (table.p log connection s) log) refl (not-false _ read);
+        }))))))))
+
+    request-contact : RowContact (request log connection s)
+    unfolding getdevices getversion set-IR get-IR setstate sendir stopir decimal
+    request-contact =
+        by-rows log connection s RowContact
+        (no-contact-row (getdevices log connection s) refl)
+        (no-contact-row (getversion log connection s) refl)
+        (no-contact-row (set-IR log connection s) refl)
+        (no-contact-row (get-IR log connection s) refl)
+        (no-contact-row (setstate log connection s) refl)
+        getstate-contact
+        (no-contact-row (sendir log connection s) refl)
+        (no-contact-row (stopir log connection s) refl)
+        (no-contact-row (row [] (no 1)) refl)
+
+  call-contact : (call : Call) → FromContact (judge log call)
+  call-contact (line connection room s) =
+      by-line log connection s FromContact room (not-contact _ refl) (not-contact _ refl) (not-contact _ refl) (not-contact _ refl)
+      (λ _. request-contact connection s)
+  call-contact (overlong connection room) = no-contact-row (rowOf log (overlong connection room)) refl
+  call-contact (reading q value) = no-contact-row (rowOf log (reading q value)) refl
+  call-contact (closing connection) = no-contact-row (rowOf log (closing connection)) refl
+  call-contact (waiting n) = no-contact-row (rowOf log (waiting n)) refl
+
+  -- 0 or 1 is answered for a contact only in SENSOR and only with what its last reading was
+  pub state-is-last-reading : (call : Call) → answerOf (judge log call) ≡ replied (text.line "state," 1 p (decimal v)) told
+      → (inSensor p log ≡ true) × (contactOf p log ≡ some v)
+  state-is-last-reading call e = call-contact call .tells e
+
+  -- ---- the same of a relay
+  record FromRelay (j : Judged) : Type 0 where
+    tells : answerOf j ≡ replied (text.line "state," 2 p (decimal v)) told → relayOf p (deedsOf j ++ log) ≡ v
+
+  not-relay : (j : Judged) → other (bytes "state,2") j ≡ true → FromRelay j
+  unfolding decimal
+  not-relay j o = record { tells = λ e. others (bytes "state,2") _ told j refl o e }
+
+  abbrev RowRelay : Row → Type 0
+  RowRelay r = FromRelay (first (r .checks) (r .otherwise))
+
+  no-relay-row : (r : Row) → otherRow (bytes "state,2") r ≡ true → RowRelay r
+  no-relay-row r o = not-relay (first (r .checks) (r .otherwise)) (first-all (other (bytes "state,2")) (r .checks) (r .otherwise) o)
+
+  relay-said : (q u : ℕ) → q ≤ 3 → replied (text.line "state," 2 q (decimal u)) none ≡ replied (text.line "state," 2 p (decimal v)) told
+      → (q ≡ p) × (u ≡ v)
+  relay-said q u h e =
+      let w : text.line "state," 2 q (decimal u) ≡ text.line "state," 2 p (decimal v) = cc in
+      state-text 2 q u p v (omega arith) (omega arith) (omega (arith, port .most)) (omega arith) w
+
+  module _ (connection : ℕ) (s : List ℕ) where
+    abbrev q : ℕ
+    q = table.p log connection s
+
+    asked-port : not (text.within 1 3 (part 58 1 (field log connection s 1))) ≡ false → q ≤ 3
+    asked-port e = within-is 1 3 (part 58 1 (field log connection s 1)) e .1
+
+    getstate-relay : RowRelay (getstate log connection s)
+    unfolding getstate decimal
+    getstate-relay =
+        through FromRelay (getstate log connection s .checks) (getstate log connection s .otherwise)
+        (past (not-relay _ refl) (λ _. past (not-relay _ refl) (λ _. past (not-relay _ refl) (λ port. past (not-relay _ refl) (λ _.
+        past (record { tells = λ e. let t = relay-said q (relayOf q log) (asked-port port) e in rw (t .0) at (t .1) })
+        (λ _. past (not-relay _ refl) (λ _. past (not-relay _ refl) (λ _. not-relay _ refl))))))))
+
+    setstate-relay : RowRelay (setstate log connection s)
+    unfolding setstate decimal
+    setstate-relay =
+        through FromRelay (setstate log connection s .checks) (setstate log connection s .otherwise)
+        (past (not-relay _ refl) (λ _. past (not-relay _ refl) (λ _. past (not-relay _ refl) (λ port.
+        past (not-relay _ refl) (λ _. past (not-relay _ refl) (λ _.
+        record {
+          tells =
+              λ e. let t = relay-said q (text.number (field log connection s 2)) (asked-port port) e in rw (eq-eqb q p (t .0)) (t .1);
+        }))))))
+
+    request-relay : RowRelay (request log connection s)
+    unfolding getdevices getversion set-IR get-IR sendir stopir decimal
+    request-relay =
+        by-rows log connection s RowRelay
+        (no-relay-row (getdevices log connection s) refl)
+        (no-relay-row (getversion log connection s) refl)
+        (no-relay-row (set-IR log connection s) refl)
+        (no-relay-row (get-IR log connection s) refl)
+        setstate-relay
+        getstate-relay
+        (no-relay-row (sendir log connection s) refl)
+        (no-relay-row (stopir log connection s) refl)
+        (no-relay-row (row [] (no 1)) refl)
+
+  call-relay : (call : Call) → FromRelay (judge log call)
+  call-relay (line connection room s) =
+      by-line log connection s FromRelay room (not-relay _ refl) (not-relay _ refl) (not-relay _ refl) (not-relay _ refl)
+      (λ _. request-relay connection s)
+  call-relay (overlong connection room) = no-relay-row (rowOf log (overlong connection room)) refl
+  call-relay (reading r value) = no-relay-row (rowOf log (reading r value)) refl
+  call-relay (closing connection) = no-relay-row (rowOf log (closing connection)) refl
+  call-relay (waiting n) = no-relay-row (rowOf log (waiting n)) refl
+
+  -- 0 or 1 is answered for a relay only with its last setting, that of the line itself or an earlier one
+  pub relay-is-last-setting : (call : Call) → answerOf (judge log call) ≡ replied (text.line "state," 2 p (decimal v)) told
+      → relayOf p (logged log call) ≡ v
+  relay-is-last-setting call e = call-relay call .tells e
+
+-- ---- where the state of a contact comes from
+module _ (p v : ℕ) where
+  felt-later : (d : Deed) {log : List Deed} → isSetting p d ≡ false → LastFelt log p v → LastFelt (d ∷ log) p v
+  felt-later d e l =
+      record { later = d ∷ l .later; earlier = l .earlier; splits = ap (λ (k : List Deed). d ∷ k) (l .splits); quiet = rw (e, l .quiet) }
+
+  -- what is known of a contact was its last reading
+  pub contact-is-last-felt : (log : List Deed) → contactOf p log ≡ some v → LastFelt log p v
+  contact-is-last-felt [] e = clash (cc)
+  contact-is-last-felt (passed n ∷ log) e = felt-later _ refl (contact-is-last-felt log e)
+  contact-is-last-felt (setting q (changed word) ∷ log) e =
+      by-test (eqb q p) (λ t. let f : none ≡ some v = rw t at e in clash (cc)) (λ t. felt-later _ t (contact-is-last-felt log (rw t at e)))
+  contact-is-last-felt (setting q (felt u) ∷ log) e =
+      by-test (eqb q p)
+      (λ t.
+      let f : some u ≡ some v = rw t at e in
+      let g : q ≡ p = eqb-true q p t in
+      let k : u ≡ v = cc in
+      record { later = []; earlier = log; splits = rw (g, k); quiet = refl })
+      (λ t. felt-later _ t (contact-is-last-felt log (rw t at e)))
+  contact-is-last-felt (switched q state ∷ log) e = felt-later _ refl (contact-is-last-felt log e)
+  contact-is-last-felt (event x ∷ log) e = felt-later _ refl (contact-is-last-felt log e)
+
+  quiet-keeps : (ds log : List Deed) → all (λ d. not (isSetting p d)) ds ≡ true → contactOf p (ds ++ log) ≡ contactOf p log
+  quiet-keeps [] log a = refl
+  quiet-keeps (passed n ∷ ds) log a = quiet-keeps ds log a
+  quiet-keeps (setting q (changed word) ∷ ds) log a =
+      rw (not-true (eqb q p) (and-left _ _ a)) (quiet-keeps ds log (and-right (not (eqb q p)) _ a))
+  quiet-keeps (setting q (felt u) ∷ ds) log a =
+      rw (not-true (eqb q p) (and-left _ _ a)) (quiet-keeps ds log (and-right (not (eqb q p)) _ a))
+  quiet-keeps (switched q state ∷ ds) log a = quiet-keeps ds log a
+  quiet-keeps (event x ∷ ds) log a = quiet-keeps ds log a
+
+  -- and the last reading is known
+  pub last-felt-is-contact : (log : List Deed) → LastFelt log p v → contactOf p log ≡ some v
+  last-felt-is-contact log l = rw (l .splits) (quiet-keeps (l .later) (setting p (felt v) ∷ l .earlier) (l .quiet) ∙ rw (eq-eqb p p refl))
+
+  -- ---- over a history
+  read-later : (call : Call) {h : List Call} (ds : List Deed) → logOf (call ∷ h) ≡ ds ++ logOf h → all (λ d. not (isSetting p d)) ds ≡ true
+      → LastReading h p v → LastReading (call ∷ h) p v
+  read-later call {h} ds e a l =
+      record {
+        later = call ∷ l .later;
+        earlier = l .earlier;
+        splits = ap (λ (k : List Call). call ∷ k) (l .splits);
+        taken = l .taken;
+        small = l .small;
+        since = ds ++ l .since;
+        logs = e ∙ ap (λ (k : List Deed). ds ++ k) (l .logs) ∙ sym (append-assoc ds (l .since) _);
+        quiet = all-append (λ d. not (isSetting p d)) ds (l .since) a (l .quiet);
+      }
+
+  -- a contact is known only by a call that read it 0 or 1, and since then neither was it read again nor its mode changed
+  pub reading-is-from-a-call : (h : List Call) → contactOf p (logOf h) ≡ some v → LastReading h p v
+  reading-is-from-a-call [] e = clash (cc)
+  reading-is-from-a-call (call ∷ h) e = go _ refl (did (logOf h) call) e (reading-is-from-a-call h)
+    where
+      go : (ds : List Deed) → deedsOf (judge (logOf h) call) ≡ ds → Did (logOf h) call ds → contactOf p (ds ++ logOf h) ≡ some v
+          → (contactOf p (logOf h) ≡ some v → LastReading h p v) → LastReading (call ∷ h) p v
+      go ds q nothing e ih = read-later call ds (rw q) refl (ih e)
+      go ds q (changes r c word _ _ _ _ _) e ih =
+          by-test (eqb r p)
+          (λ t. let f : none ≡ some v = rw t at e in clash (cc)) (λ t. read-later call ds (rw q) (rw t) (ih (rw t at e)))
+      go ds q (reads r u is _ _ small) e ih =
+          by-test (eqb r p)
+          (λ t.
+          let f : some u ≡ some v = rw t at e in
+          let g : r ≡ p = eqb-true r p t in
+          let k : u ≡ v = cc in
+          let l : call ≡ reading p v = cc in
+          let d : deedsOf (judge (logOf h) call) ≡ setting p (felt v) ∷ [] = q ∙ rw (g, k) in
+          record {
+            later = [];
+            earlier = h;
+            splits = rw l;
+            taken = ap (λ (k : Call). deedsOf (judge (logOf h) k)) (sym l) ∙ d;
+            small = rw (← k) small;
+            since = [];
+            logs = ap (λ (k : List Deed). k ++ logOf h) d;
+            quiet = refl;
+          })
+          (λ t. read-later call ds (rw q) (rw t) (ih (rw t at e)))
+      go ds q (switches r c u _ _ _) e ih = read-later call ds (rw q) refl (ih e)
+      go ds q (starts r c f ps _ _ _ _ _) e ih = read-later call ds (rw q) refl (ih e)
+      go ds q (renews r c s _ _ _ _ _) e ih = read-later call ds (rw q) refl (ih e)
+      go ds q (halts r c _ _ _) e ih = read-later call ds (rw q) refl (ih e)
+      go ds q (leaves c _ _) e ih = read-later call ds (rw q) refl (ih e)
+      go ds q (passes n _ _) e ih = read-later call ds (rw q) refl (ih e)
+
+  pub last-reading-is-known : (h : List Call) → LastReading h p v → contactOf p (logOf h) ≡ some v
+  last-reading-is-known h l =
+      last-felt-is-contact (logOf h) (record { later = l .since; earlier = logOf (l .earlier); splits = l .logs; quiet = l .quiet })
+
+-- ---- relays
+relay-later : (p state : ℕ) (d : Deed) {log : List Deed} → isSwitching p d ≡ false → LastSwitched log p state → LastSwitched (d ∷ log) p state
+relay-later p state d e (never z a) = never z (rw (e, a))
+relay-later p state d e (last later earlier splits a) = last (d ∷ later) earlier (ap (λ (k : List Deed). d ∷ k) splits) (rw (e, a))
+
+-- a relay is as it was switched last, and 0 if it never was
+pub relay-is-last-switched : (log : List Deed) (p : ℕ) → LastSwitched log p (relayOf p log)
+relay-is-last-switched [] p = never refl refl
+relay-is-last-switched (passed n ∷ log) p = relay-later p _ _ refl (relay-is-last-switched log p)
+relay-is-last-switched (setting q x ∷ log) p = relay-later p _ _ refl (relay-is-last-switched log p)
+relay-is-last-switched (switched q state ∷ log) p =
+    by-test (eqb q p)
+    (λ t. let g : q ≡ p = eqb-true q p t in rw t (last [] log (rw g) refl))
+    (λ t. rw t (relay-later p _ _ t (relay-is-last-switched log p)))
+relay-is-last-switched (event x ∷ log) p = relay-later p _ _ refl (relay-is-last-switched log p)
+
+unswitched : (p : ℕ) (ds log : List Deed) → all (λ d. not (isSwitching p d)) ds ≡ true → relayOf p (ds ++ log) ≡ relayOf p log
+unswitched p [] log a = refl
+unswitched p (passed n ∷ ds) log a = unswitched p ds log a
+unswitched p (setting q x ∷ ds) log a = unswitched p ds log a
+unswitched p (switched q state ∷ ds) log a =
+    rw (not-true (eqb q p) (and-left _ _ a)) (unswitched p ds log (and-right (not (eqb q p)) _ a))
+unswitched p (event x ∷ ds) log a = unswitched p ds log a
+
+pub last-switched-is-relay : (log : List Deed) (p state : ℕ) → LastSwitched log p state → relayOf p log ≡ state
+last-switched-is-relay log p state (never z a) = ap (relayOf p) (sym (append-nil log)) ∙ unswitched p log [] a ∙ sym z
+last-switched-is-relay log p state (last later earlier splits a) =
+    rw splits (unswitched p later (switched p state ∷ earlier) a ∙ rw (eq-eqb p p refl))

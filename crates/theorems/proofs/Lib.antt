@@ -1,0 +1,15 @@
+pub mod Rows
+pub mod Codes
+pub mod Deeds
+pub mod Owners
+pub mod Times
+pub mod Completing
+pub mod Longest
+pub mod Silent
+pub mod Contacts
+pub mod Later
+pub mod Order
+pub mod Words
+pub mod Occasions
+pub mod Spelled
+pub mod Commands

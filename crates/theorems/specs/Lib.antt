@@ -1,0 +1,9 @@
+pub mod Deeds
+pub mod Owners
+pub mod Notices
+pub mod Contacts
+pub mod Later
+pub mod Order
+pub mod Occasion
+pub mod Spelled
+pub mod Commands

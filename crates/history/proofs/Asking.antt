@@ -7,8 +7,8 @@ use mathlib.Core.Option.{Option, none, some}
 use native.Mathlib.Omega.{arith}
 use lib.Dec.{eqb}
 use lib.ListN.{length}
-use Rattle.laws.specs.Put.{storedIn}
 use borrow.Author.Tests.{ltb-true}
+use Rattle.laws.specs.Put.{storedIn}
 use Rattle.laws.proofs.Choice.{by-test, cond-case}
 use Rattle.words.specs.declared.Pair.{Pair}
 use Rattle.code.specs.Limits.{offsetWithin}

@@ -13,5 +13,4 @@ pub mod Waits
 pub mod Composing
 pub mod Sound
 pub mod Moments
-pub mod Silent
 pub mod Renewing

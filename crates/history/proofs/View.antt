@@ -115,7 +115,7 @@ command-is f ps s =
     (by-test (eqb (s .fields .freq) (f .freq)) (λ b. rw b
     (by-test (eqb (s .fields .repeat) (f .repeat)) (λ c. rw c) (λ c. rw c))) (λ b. rw b))) (λ a. rw a))
 
-until-some : (t : ℕ) (o : Option Transmission) {s : Transmission} → until t o ≡ some s → o ≡ some s
+pub until-some : (t : ℕ) (o : Option Transmission) {s : Transmission} → until t o ≡ some s → o ≡ some s
 until-some t none e = e
 until-some t (some r) e = by-test (complete r t) (λ f. absurd (none-some (sym (rw f) ∙ e))) (λ f. sym (rw f) ∙ e)
   where

@@ -1,4 +1,5 @@
--- The hub and its store after calls, and two waits in the place of one. Document 01: "Of two waits, the second's moments are counted from its own start; add the first wait to compare."
+-- The hub and its store after calls, and two waits in the place of one. Document 01: "Of two waits, the second's moments are counted from
+-- its own start; add the first wait to compare."
 use Prim.Native.Nat.{ℕ, _+_}
 use mathlib.Core.Path.{_≡_}
 use mathlib.Core.List.{List, [], _∷_, _++_, map}

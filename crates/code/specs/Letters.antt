@@ -1,10 +1,10 @@
 -- Document 01: "going through the expanded pairs in order, the first 15 distinct pairs get A to O as each first occurs."
 use Prim.Native.Nat.{ℕ, suc, _+_, _≤_}
 use mathlib.Core.Path.{_≡_}
-use mathlib.Core.Bool.{Bool, false, cond}
+use mathlib.Core.Bool.{Bool, cond}
 use mathlib.Core.List.{List, [], _∷_, _++_}
 use lib.ListN.{length, take, set, replicate}
-use lib.Dec.{ltb, eqb}
+use lib.Dec.{ltb}
 use Rattle.words.specs.declared.Pair.{Pair}
 use Rattle.words.specs.Pairs.{pair, samePair}
 use Rattle.code.specs.declared.letters.Letters.{Letters}

@@ -1,22 +1,20 @@
 -- A transmission renewed any number of times stays exact, and what the hub's record holds of it within its bounds.
 use Prim.Native.Nat.{ℕ, _+_}
-use mathlib.Core.Path.{_≡_, refl, sym, ap, _∙_, subst}
-use mathlib.Core.Bool.{true, false}
+use mathlib.Core.Path.{_≡_, refl, ap, subst}
+use mathlib.Core.Bool.{true}
 use mathlib.Core.List.{List, [], _∷_}
 use mathlib.Core.Option.{Option, none, some, Option·map}
 use lib.Dec.{eqb}
 use borrow.Author.Tests.{eq-eqb, eqb-true}
 use Rattle.laws.proofs.Choice.{cond-case, and-true}
-use Rattle.meaning.specs.Time.{Transmission, complete, begun, done}
+use Rattle.meaning.specs.Time.{Transmission, begun, done}
 use Rattle.meaning.specs.Time as time
 use Rattle.meaning.specs.Log.{Deed, passed, setting, switched, event, started, renewed, halted, left, now, lastOf, onAir}
 use Rattle.meaning.specs.Table.{deedsOf, Call, judge, logOf}
-use Rattle.pace.specs.Pace.{SoundPace}
-use Rattle.waveform.proofs.Paced.{Fit, paceAt, renewed-runs}
-use Rattle.waveform.proofs.Meaning.{pace-sound}
+use Rattle.waveform.proofs.Paced.{Fit, renewed-runs}
 use Rattle.history.specs.Copies.{spares, CopiesBy, at-start, at-renewal}
-use Rattle.history.proofs.Shown.{FitFor, runs-on-air}
-use Rattle.history.proofs.View.{air-is, until-some}
+use Rattle.history.proofs.Shown.{FitFor}
+use Rattle.history.proofs.View.{until-some}
 use Rattle.history.proofs.Logged.{logged-fit}
 
 -- ---- its copies
@@ -73,14 +71,6 @@ module _ (h : List Call) (p : ℕ) (s : Transmission) (air : onAir p (logOf h) �
 
   fit : Fit s t
   fit = subst (FitFor t) last (logged-fit h p)
-
-  runs : complete s t ≡ false
-  unfolding onAir
-  runs = runs-on-air t (lastOf p (logOf h)) s (sym (air-is t (lastOf p (logOf h))) ∙ air)
-
-  -- what the hub's record holds of it is within its bounds
-  pub record-bounded : SoundPace (paceAt s t)
-  record-bounded = pace-sound fit runs
 
   -- A call renews it: it stays on air, and nothing of it changes but the number of copies, which becomes those begun at this moment plus
   -- repeat; it runs on since its first start.

@@ -17,7 +17,8 @@ use Rattle.pace.specs.declared.Passed.the-variants as passed
 use Rattle.pace.specs.Pace.{micros}
 use Rattle.meaning.specs.Time.{countsOf, Transmission, complete, finish, started, renewed}
 use Rattle.store.specs.Store.{slotCounts, alike}
-use Rattle.store.proofs.Kept.{alike-same, counts-same}
+use Rattle.theorems.proofs.Commands.{counts-same}
+use Rattle.store.proofs.Kept.{alike-same}
 use Rattle.waveform.proofs.Paced.{Fit, paceAt, pace-started, pace-renewed, started-runs, renewed-runs, complete-later, passed-is}
 use Rattle.waveform.proofs.Carried.{carrier-paced}
 use Rattle.connector.specs.declared.Owner.the-variants.{Nobody, Connection}

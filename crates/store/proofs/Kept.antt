@@ -29,18 +29,6 @@ alike-same (x ∷ xs) (y ∷ ys) e =
     (λ f. rw (eqb-true x y f, alike-same xs ys (rw f at e)))
     (λ f. not-both (rw f at e) refl)
 
--- ---- the counts tell the pairs
-pub counts-same : (ps qs : List Pair) → countsOf ps ≡ countsOf qs → ps ≡ qs
-counts-same [] [] e = refl
-counts-same [] (q ∷ qs) e = cc
-counts-same (p ∷ ps) [] e = cc
-counts-same (p ∷ ps) (q ∷ qs) e =
-    let on : p .on ≡ q .on = cc in
-    let off : p .off ≡ q .off = cc in
-    let pair : p ≡ q = λ i. record { on = on i; off = off i } in
-    let rest : ps ≡ qs = counts-same ps qs (cc) in
-    cc
-
 counts-length : (ps : List Pair) → length (countsOf ps) ≡ 2 * length ps
 counts-length [] = refl
 counts-length (p ∷ ps) = omega (arith, counts-length ps)

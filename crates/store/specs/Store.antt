@@ -1,10 +1,9 @@
 -- The counts of all connectors in one list: 520 numbers for each, on and off in turn.
-use Prim.Native.Nat.{ℕ, zero, suc, _-_, _*_}
-use mathlib.Core.Bool.{Bool, true, false, cond, not}
+use Prim.Native.Nat.{ℕ, zero, suc, _*_}
+use mathlib.Core.Bool.{Bool, true, false, cond}
 use mathlib.Core.List.{List, [], _∷_}
 use lib.ListN.{getD}
-use lib.Dec.{eqb, ltb}
-use Rattle.words.specs.declared.Pair.{Pair}
+use lib.Dec.{eqb}
 
 -- k numbers of a list from a place on
 abbrev pub numbers : List ℕ → ℕ → ℕ → List ℕ

@@ -4,7 +4,6 @@ use mathlib.Core.Path.{_≡_, refl, sym, ap, _∙_}
 use mathlib.Core.Bool.{true, false, _&&_}
 use mathlib.Core.List.{List, [], _∷_, _++_}
 use mathlib.Core.Option.{Option, none, some}
-use native.Mathlib.Omega.{arith}
 use lib.Dec.{eqb}
 use borrow.Author.Tests.{eq-eqb, eqb-true, eqb-false, ne-eqb}
 use Rattle.laws.specs.Bytes.{bytes}
@@ -16,9 +15,9 @@ use Rattle.words.specs.declared.Pair.{Pair}
 use Rattle.words.specs.declared.Fields.{Fields}
 use Rattle.meaning.specs.Line as text
 use Rattle.meaning.specs.Line.{is, addressed}
-use Rattle.meaning.specs.Time.{Transmission, countsOf, complete}
+use Rattle.meaning.specs.Time.{Transmission, countsOf}
 use Rattle.meaning.specs.Time as time
-use Rattle.meaning.specs.Log.{Deed, setting, event, changed, renewed, halted, now, modeOf, contactOf, lastOf, ownerOf, until, onAir}
+use Rattle.meaning.specs.Log.{Deed, setting, event, changed, renewed, halted, modeOf, contactOf, lastOf, ownerOf, onAir}
 use Rattle.meaning.specs.Table.{Call, line, Judged, error, does, taken, replied, deedsOf, reply, answerOf, isSame, judge, logged}
 use Rattle.theorems.proofs.Times.{on-air-is}
 use Rattle.theorems.specs.Deeds.{ModeWord}
@@ -27,7 +26,7 @@ use Rattle.theorems.specs.Commands.{Starts, Renews, Busy, Tells, another
 use Rattle.theorems.proofs.Spelled.{sendir-judged, set-IR-spelled, stopir-spelled}
 
 -- ---- equal commands: "equal id, freq, capped repeat, offset and pairs"
-counts-same : (ps qs : List Pair) → countsOf ps ≡ countsOf qs → ps ≡ qs
+pub counts-same : (ps qs : List Pair) → countsOf ps ≡ countsOf qs → ps ≡ qs
 counts-same [] [] e = refl
 counts-same [] (q ∷ qs) e = cc
 counts-same (p ∷ ps) [] e = cc

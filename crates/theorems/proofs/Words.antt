@@ -1,25 +1,23 @@
 -- What the shared words of the meaning mean.
 use Prim.Native.Nat.{ℕ, _^_, _≤_, _<_}
 use mathlib.Core.Path.{_≡_, refl, sym, ap, _∙_}
-use mathlib.Core.Bool.{Bool, true, false, cond, _&&_}
+use mathlib.Core.Bool.{true, false, cond}
 use mathlib.Core.List.{List, [], _∷_, _++_}
 use mathlib.Core.Logic.{_↔_}
 use borrow.Author.Tests.{eqb-true, eq-eqb, le-ltb, le-leb}
 use lib.Dec.{eqb}
 use Rattle.laws.specs.Bytes.{bytes}
 use Rattle.laws.specs.Lists.{same}
-use Rattle.laws.proofs.Choice.{clash, by-test, not-both}
+use Rattle.laws.proofs.Choice.{by-test, not-both}
 use Rattle.laws.proofs.Lists.{same-is, same-self}
 use Rattle.words.specs.Decimal.{decimal}
 use Rattle.words.specs.Digits.{isDigit, worth}
 use Rattle.words.specs.Pairs.{samePair}
 use Rattle.words.specs.declared.Pair.{Pair}
-use Rattle.words.specs.declared.Fields.{Fields}
 use Rattle.text.proofs.Decimals.{decimal-value}
 use Rattle.text.proofs.Reading.{digit-range}
-use Rattle.meaning.specs.Time.{Transmission, countsOf}
 use Rattle.meaning.specs.Log.{Deed, modeOf}
-use Rattle.meaning.specs.Table.{Call, logOf, isSame}
+use Rattle.meaning.specs.Table.{Call, logOf}
 use Rattle.theorems.specs.Deeds.{ModeWord, ir, inSensor, Did, nothing, changes, reads, switches, starts, renews, halts, leaves, passes}
 use Rattle.theorems.proofs.Deeds.{did}
 

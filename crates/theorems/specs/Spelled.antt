@@ -107,13 +107,16 @@ contactTold log p = first
 abbrev pub starts : ℕ → ℕ → Fields → List Pair → Judged
 starts connection p f ps = does (taken []) (event (started p connection f ps) ∷ [])
 
-abbrev pub commanded : List Deed → ℕ → ℕ → Fields → List Pair → Judged
-commanded log connection p f ps = first
-    ((is "SENSOR" (modeOf p log) ⇒ error 13 1 p)
-    ∷ (not (isSome (onAir p log)) ⇒ starts connection p f ps)
+-- a command to a connector that may transmit
+abbrev pub sent : List Deed → ℕ → ℕ → Fields → List Pair → Judged
+sent log connection p f ps = first
+    ((not (isSome (onAir p log)) ⇒ starts connection p f ps)
     ∷ (not (isOwner connection (ownerOf p log)) ⇒ reply (text.line "busyIR," 1 p (decimal (f .id))) [])
     ∷ (holds (isSame f ps) (onAir p log) ⇒ does (taken []) (event (renewed p) ∷ []))
     ∷ []) (starts connection p f ps)
+
+abbrev pub commanded : List Deed → ℕ → ℕ → Fields → List Pair → Judged
+commanded log connection p f ps = first ((is "SENSOR" (modeOf p log) ⇒ error 13 1 p) ∷ []) (sent log connection p f ps)
 
 -- whom else a stopir is told: "the owner of a halted transmission, if another connection"
 abbrev pub toldOf : List Deed → ℕ → ℕ → Option ℕ

@@ -1,6 +1,6 @@
 use Prim.Native.Nat.{_-_, _≤_}
-use mathlib.Core.Path.{_≡_, refl}
-use lib.ListN.{length, length-set}
+use mathlib.Core.Path.{_≡_}
+use lib.ListN.{length}
 use Rattle.bench.proofs.append.Statement.{statement}
 use Rattle.bench.proofs.append.Tie as tie
 use borrow.Author.Needs.{needs}

@@ -1,4 +1,3 @@
-use mathlib.Core.Path.{sym}
 use Rattle.hub.proofs.Keeps.{reading-sound, closed-sound}
 use borrow.Author.Needs.{needs}
 use Rattle.bench.proofs.turn.whole.Statement.{statement}

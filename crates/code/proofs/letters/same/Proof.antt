@@ -2,7 +2,6 @@ use borrow.Author.Tests.{eq-eqb, ne-eqb}
 use Rattle.words.specs.Pairs.{samePair}
 use Rattle.code.proofs.letters.same.Statement.{statement}
 use Rattle.code.proofs.letters.same.Tie as tie
-use borrow.Author.Needs.{needs}
 
 returns : tie.Need-returns
 unfolding samePair

@@ -2,7 +2,6 @@ use borrow.Author.Tests.{lt-ltb, le-ltb}
 use Rattle.code.specs.Next.{isLetter}
 use Rattle.code.proofs.next.is_letter.Statement.{statement}
 use Rattle.code.proofs.next.is_letter.Tie as tie
-use borrow.Author.Needs.{needs}
 
 returns : tie.Need-returns
 unfolding isLetter

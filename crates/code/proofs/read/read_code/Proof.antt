@@ -1,10 +1,6 @@
 use Prim.Native.Nat.{_-_}
-use mathlib.Core.Path.{_≡_, sym, _∙_}
+use mathlib.Core.Path.{sym, _∙_}
 use native.Mathlib.Omega.{arith}
-use denote.Ref.{now}
-use Rattle.code.specs.declared.next.Next.{Next}
-use Rattle.code.specs.declared.next.Next.the-variants.{Spelled, Letter}
-use Rattle.code.specs.Next.{nextPair}
 use Rattle.code.proofs.Reading.{Going, going-start, going-end, going-fault, going-spelled, going-letter, going-sound}
 use Rattle.code.proofs.read.read_code.Statement.{statement}
 use Rattle.code.proofs.read.read_code.Tie as tie

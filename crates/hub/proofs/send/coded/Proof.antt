@@ -5,7 +5,6 @@ use borrow.Author.Tests.{lt-ltb, le-ltb}
 use denote.Ref.{now}
 use lib.ListN.{take, length}
 use Rattle.code.specs.Read.{pairs, readCode}
-use Rattle.code.specs.Accepted.{Accepted}
 use Rattle.code.proofs.Accepted.{accepted}
 use Rattle.code.proofs.Filled.{code-pairs, code-fault}
 use Rattle.hub.specs.Send.{codeStep}

@@ -1,7 +1,6 @@
 use borrow.Author.Tests.{lt-ltb, le-ltb}
 use Rattle.text.proofs.number.is_digit.Statement.{statement}
 use Rattle.text.proofs.number.is_digit.Tie as tie
-use borrow.Author.Needs.{needs}
 
 returns : tie.Need-returns
 returns c = simp (lt-ltb _ _ (c .if1 .taken))

@@ -1,6 +1,6 @@
 use Prim.Native.Nat.{_-_}
 use mathlib.Core.Path.{_≡_, refl}
-use lib.ListN.{length, length-set}
+use lib.ListN.{length}
 use Rattle.vectors.proofs.fill.fill_spelled.Statement.{statement}
 use Rattle.vectors.proofs.fill.fill_spelled.Tie as tie
 use borrow.Author.Needs.{needs}

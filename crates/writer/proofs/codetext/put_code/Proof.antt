@@ -1,7 +1,6 @@
-use Prim.Native.Nat.{_-_, _+_, _%_, _<_}
-use mathlib.Core.Path.{_≡_, sym, _∙_}
+use Prim.Native.Nat.{_-_, _+_, _%_}
+use mathlib.Core.Path.{_≡_}
 use native.Mathlib.Omega.{arith}
-use Rattle.code.specs.Letters.{placeOf, held}
 use Rattle.writer.proofs.Writing.{Writing, writing-start, writing-end, writing-letter, writing-spelled, at-most}
 use Rattle.writer.proofs.codetext.put_code.Statement.{statement}
 use Rattle.writer.proofs.codetext.put_code.Tie as tie

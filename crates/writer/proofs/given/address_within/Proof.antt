@@ -2,7 +2,6 @@ use borrow.Author.Tests.{eq-eqb, ne-eqb, lt-ltb, le-ltb}
 use Rattle.writer.specs.Given.{addressWithin}
 use Rattle.writer.proofs.given.address_within.Statement.{statement}
 use Rattle.writer.proofs.given.address_within.Tie as tie
-use borrow.Author.Needs.{needs}
 
 returns : tie.Need-returns
 unfolding addressWithin

@@ -2,7 +2,6 @@ use borrow.Author.Tests.{lt-ltb, le-ltb}
 use Rattle.writer.specs.Given.{fieldsWithin}
 use Rattle.writer.proofs.given.fields_within.Statement.{statement}
 use Rattle.writer.proofs.given.fields_within.Tie as tie
-use borrow.Author.Needs.{needs}
 
 returns : tie.Need-returns
 unfolding fieldsWithin

@@ -7,7 +7,6 @@ use denote.Ref.{now}
 use lib.ListN.{take, length}
 use Rattle.laws.proofs.Put.{then}
 use Rattle.code.specs.Read.{pairs}
-use Rattle.code.specs.Accepted.{Accepted}
 use Rattle.code.proofs.Filled.{code-pairs, code-fault}
 use Rattle.writer.specs.Given.{addressWithin, fieldsWithin, countsGiven}
 use Rattle.writer.proofs.Limits.{address-in, fields-in, small, given-accepted}

@@ -1,14 +1,14 @@
 -- A wait's completions are in their order, none is lost and none is doubled, and they are at most three.
 use Prim.Native.Nat.{ℕ, suc, _+_, _-_, _≤_, _<_}
 use mathlib.Core.Path.{_≡_, refl, sym, ap, _∙_, subst}
-use mathlib.Core.Bool.{Bool, true, false, cond}
+use mathlib.Core.Bool.{Bool, true, false, cond, not}
 use mathlib.Core.List.{List, [], _∷_, _++_, Perm, Perm·refl, Perm·cons, Perm·swap, Perm·trans}
 use mathlib.Core.Option.{Option, none, some}
 use native.Mathlib.Omega.{arith}
 use borrow.Author.Tests.{ltb-true, ltb-false, leb-true, leb-false, le-leb, eqb-true, ne-eqb}
 use lib.Dec.{ltb, eqb}
 use lib.ListN.{length, length-append}
-use Rattle.laws.specs.Checks.{between}
+use Rattle.laws.specs.Checks.{between, isSome}
 use Rattle.laws.specs.Lists.{all}
 use Rattle.laws.proofs.Choice.{cond-case, by-test, and-left, and-right, and-true}
 use Rattle.laws.proofs.Lists.{all-append}
@@ -160,3 +160,11 @@ module _ (h : List Call) (n : ℕ) where
       all-ordered inside (due n log 1 ++ due n log 2 ++ due n log 3)
       (all-append inside (due n log 1 ++ due n log 2) (due n log 3)
       (all-append inside (due n log 1) (due n log 2) (due-inside 1) (due-inside 2)) (due-inside 3))
+
+-- "One without an owner is listed without an addressee."
+pub unowned-unaddressed : (n : ℕ) (log : List Deed) (p : ℕ) → ownerOf p log ≡ none → all (λ x. not (isSome (x .owner))) (due n log p) ≡ true
+unowned-unaddressed n log p e = go (onAir p log)
+  where
+    go : (o : Option Transmission) → all (λ x. not (isSome (x .owner))) (dueOf n (now log) p (ownerOf p log) o) ≡ true
+    go none = refl
+    go (some s) = by-test (complete s (now log + n)) (λ c. rw (c, e)) (λ c. rw c)

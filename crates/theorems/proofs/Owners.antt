@@ -11,7 +11,7 @@ use lib.Dec.{eqb}
 use Rattle.laws.proofs.Choice.{clash, by-test, not-both}
 use Rattle.words.specs.declared.Pair.{Pair}
 use Rattle.words.specs.declared.Fields.{Fields}
-use Rattle.meaning.specs.Log.{Deed, passed, setting, switched, event, started, renewed, halted, left, isOwner, ownerOf}
+use Rattle.meaning.specs.Log.{Deed, passed, setting, switched, event, started, renewed, halted, left, isOwner, ownerOf, onAir}
 use Rattle.meaning.specs.Table.{Call, line, closing, judge, deedsOf, logOf}
 use Rattle.theorems.specs.Deeds.{Did, nothing, changes, reads, switches, starts, renews, halts, leaves, passes}
 use Rattle.theorems.specs.Owners.{StartedBy, StartedAfter}
@@ -23,6 +23,12 @@ nobody e = clash (cc)
 -- "starts with the sender as owner"
 pub sender-owns : (log : List Deed) (p c : ℕ) (f : Fields) (ps : List Pair) → ownerOf p (event (started p c f ps) ∷ log) ≡ some c
 sender-owns log p c f ps = rw (eq-eqb p p refl)
+
+-- "its transmissions run on with no owner"
+pub runs-on-unowned : (log : List Deed) (p c : ℕ) → ownerOf p log ≡ some c
+    → (onAir p (event (left c) ∷ log) ≡ onAir p log) × (ownerOf p (event (left c) ∷ log) ≡ none)
+unfolding onAir
+runs-on-unowned log p c e = (refl, rw (e, eq-eqb c c refl))
 
 -- a connection that left owns nothing
 pub leaver-owns-not : (log : List Deed) (p c : ℕ) → ownerOf p (event (left c) ∷ log) ≡ some c → ⊥

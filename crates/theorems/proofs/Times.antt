@@ -30,6 +30,11 @@ module _ (ticks freq : ℕ) (f : 1 ≤ freq) where
       let k = div-lt-iff-lt-mul {k = freq} {x = ticks + (freq - 1)} {y = m + 1} f .1 (omega (arith, add-mul m 1 freq)) in
       omega arith
 
+-- "After t microseconds a transmission has done t × freq / 1,000,000 periods": so many ticks, millionths of a period
+pub done-after : (s : Transmission) (t : ℕ) → done s (s .start + t) ≡ t * s .fields .freq
+unfolding done
+done-after s t = let e : s .start + t - s .start ≡ t = omega arith in rw e
+
 -- ---- a transmission that was started by the moment t
 pub record Begun (s : Transmission) (t : ℕ) : Type 0 where
   pub by-then : s .start ≤ t

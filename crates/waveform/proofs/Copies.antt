@@ -42,6 +42,10 @@ module _ (f : Fields) (ps : List Pair) (odd : f .offset % 2 ≡ 1) where
       let e : f .offset - 1 ≡ 2 * (f .offset / 2) = omega arith in
       ap (λ (n : ℕ). drop n (countsOf ps)) e ∙ counts-drop (f .offset / 2) ps
 
+  -- "The first copy is all pairs; each further copy runs from the on count at the offset."
+  pub copies-are : (n : ℕ) → waveform f ps (suc n) ≡ countsOf ps ++ times n (countsOf (drop (f .offset / 2) ps))
+  copies-are n = ap (λ (l : List ℕ). countsOf ps ++ times n l) further-is
+
   pub further-lasts : lasts (furtherCopy f ps) ≡ periodsOf (drop (f .offset / 2) ps)
   further-lasts = ap lasts further-is ∙ lasts-counts (drop (f .offset / 2) ps)
 

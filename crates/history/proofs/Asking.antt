@@ -24,7 +24,8 @@ use Rattle.request.specs.Accepted.{PortWithin, FieldsWithin, SentWithin, Within
 use Rattle.reply.specs.declared.Reply.the-variants as reply
 use Rattle.meaning.specs.Time.{countsOf, Transmission, started, renewed}
 use Rattle.store.proofs.Kept.{kept-size, kept, others-kept}
-use Rattle.waveform.proofs.Paced.{Fit, started-runs, renewed-runs}
+use Rattle.waveform.specs.Paced.{Fit}
+use Rattle.waveform.proofs.Paced.{started-runs, renewed-runs}
 use Rattle.connector.specs.declared.Owner.the-variants.{Nobody, Connection}
 use Rattle.connector.specs.declared.Contact.{Contact}
 use Rattle.connector.specs.declared.Contact.the-variants.{Unread, Read}

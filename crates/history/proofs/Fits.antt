@@ -21,7 +21,8 @@ use Rattle.request.specs.declared.Request.{Request}
 use Rattle.request.specs.declared.Request.the-variants as request
 use Rattle.request.specs.Accepted.{FieldsWithin, SentWithin, Within}
 use Rattle.meaning.specs.Time.{Transmission}
-use Rattle.waveform.proofs.Paced.{Fit, fit-started, fit-renewed, fit-later}
+use Rattle.waveform.specs.Paced.{Fit}
+use Rattle.waveform.proofs.Paced.{fit-started, fit-renewed, fit-later}
 use Rattle.connector.specs.Change.{owns, sameMode}
 use Rattle.connector.specs.Send.{transmitsNot}
 use Rattle.history.proofs.Known.{Known, Sendir, wrong, command, onAir, transmits, codeOf, sendirOf, sameCommand, commanded, sentTo, concerns, asked, made, withMode}

@@ -16,7 +16,7 @@ use Rattle.reads.proofs.Rows.{line-is}
 use Rattle.history.proofs.Known.{Known}
 use Rattle.history.proofs.Shown.{FitFor}
 use Rattle.history.proofs.Fits.{made-fit, fit-after}
-use Rattle.reads.proofs.Meant.{meant}
+use Rattle.reads.specs.Meant.{meant}
 use Rattle.history.proofs.View.{view, Worded, worded, request-step, now-step}
 
 module _ (log : List Deed) (words : Worded log) (p : ℕ) (fit : FitFor (now log) (lastOf p log)) where

@@ -7,7 +7,7 @@ use mathlib.Core.Option.{some}
 use Rattle.meaning.specs.Time.{inTicks, Transmission, waveform, lasts, done, complete, finish, begun}
 use Rattle.meaning.specs.Log.{now, lastOf}
 use Rattle.meaning.specs.Table.{Call, logOf}
-use Rattle.waveform.proofs.Paced.{Fit}
+use Rattle.waveform.specs.Paced.{Fit}
 use Rattle.waveform.proofs.Meaning.{finish-first, begun-copies, begun-boundary}
 use Rattle.history.proofs.Shown.{FitFor}
 use Rattle.history.proofs.Logged.{logged-fit}

@@ -11,7 +11,8 @@ use Rattle.meaning.specs.Time.{Transmission, begun, done}
 use Rattle.meaning.specs.Time as time
 use Rattle.meaning.specs.Log.{Deed, passed, setting, switched, event, started, renewed, halted, left, now, lastOf, onAir}
 use Rattle.meaning.specs.Table.{deedsOf, Call, judge, logOf}
-use Rattle.waveform.proofs.Paced.{Fit, renewed-runs}
+use Rattle.waveform.specs.Paced.{Fit}
+use Rattle.waveform.proofs.Paced.{renewed-runs}
 use Rattle.history.specs.Copies.{spares, CopiesBy, at-start, at-renewal}
 use Rattle.history.proofs.Shown.{FitFor}
 use Rattle.history.proofs.View.{until-some}

@@ -19,7 +19,8 @@ use Rattle.meaning.specs.Time.{countsOf, Transmission, complete, finish, starte
 use Rattle.store.specs.Store.{slotCounts, alike}
 use Rattle.theorems.proofs.Commands.{counts-same}
 use Rattle.store.proofs.Kept.{alike-same}
-use Rattle.waveform.proofs.Paced.{Fit, paceAt, pace-started, pace-renewed, started-runs, renewed-runs, complete-later, passed-is}
+use Rattle.waveform.specs.Paced.{Fit, paceAt}
+use Rattle.waveform.proofs.Paced.{pace-started, pace-renewed, started-runs, renewed-runs, complete-later, passed-is}
 use Rattle.waveform.proofs.Carried.{carrier-paced}
 use Rattle.connector.specs.declared.Owner.the-variants.{Nobody, Connection}
 use Rattle.connector.specs.declared.Contact.the-variants.{Unread, Read}

@@ -36,7 +36,7 @@ use Rattle.connector.specs.Change.{owns, toldOf}
 use Rattle.connector.specs.Send.{transmitsNot}
 use Rattle.hub.specs.declared.Answer as hubs
 use Rattle.hub.specs.declared.Answer.the-variants as answer
-use Rattle.reads.proofs.Meant.{meantCommand, meantCode, meantSent, meant}
+use Rattle.reads.specs.Meant.{meantCommand, meantCode, meantSent, meant}
 use Rattle.reads.proofs.Cursor.{modeIn}
 use Rattle.history.specs.Heard.{ownerOut, completionOut, answerOut}
 use Rattle.history.proofs.Known as known

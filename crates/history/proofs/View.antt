@@ -37,7 +37,7 @@ use Rattle.connector.specs.declared.Contact.{Contact}
 use Rattle.connector.specs.declared.Contact.the-variants.{Unread, Read}
 use Rattle.connector.specs.Change.{sameMode, owns, toldOf, sameFields}
 use Rattle.connector.specs.Send.{transmitsNot}
-use Rattle.reads.proofs.Meant.{sensorAt, meantCommand, meantCode, meantSent, meant}
+use Rattle.reads.specs.Meant.{sensorAt, meantCommand, meantCode, meantSent, meant}
 use Rattle.reads.proofs.Cursor.{modeIn}
 use Rattle.reads.proofs.Rows.{line-is}
 use Rattle.history.proofs.Known as known

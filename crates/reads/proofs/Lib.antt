@@ -1,4 +1,3 @@
-pub mod Meant
 pub mod Cursor
 pub mod Bytewise
 pub mod Codes

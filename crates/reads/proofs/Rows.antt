@@ -36,7 +36,7 @@ use Rattle.request.specs.Mode.{modeWord, mayHave}
 use Rattle.request.specs.Fields.{capped, sentAt}
 use Rattle.request.specs.Request.{isPrintable, alone, setIrAt, setStateAt, getStateAt, atAddress, addressed, named, readRequest}
 use Rattle.reads.specs.Readings.{readingOf}
-use Rattle.reads.proofs.Meant.{sensorAt, meantPairs, meantCode, meant}
+use Rattle.reads.specs.Meant.{sensorAt, meantPairs, meantCode, meant}
 use Rattle.reads.proofs.Cursor.{word-is, isMode, modeIn, word-back, counts, counts-within, Cursor, start, field-is, next, over, within-is, address-is-at, mode-is}
 use Rattle.reads.proofs.Bytewise.{code-bytewise}
 

@@ -17,7 +17,8 @@ use Rattle.pace.proofs.Lasting.{periods-split}
 use Rattle.laws.specs.Lists.{times}
 use Rattle.waveform.proofs.Copies.{first-lasts, further-is}
 use Rattle.waveform.proofs.Turning.{on-before, on-pairs, on-times}
-use Rattle.waveform.proofs.Paced.{Fit, removed, lead, tail, paceAt, tail-some, total-is, under-way}
+use Rattle.waveform.specs.Paced.{Fit, removed, lead, tail, paceAt}
+use Rattle.waveform.proofs.Paced.{tail-some, total-is, under-way}
 
 counts-append : (a b : List Pair) → countsOf (a ++ b) ≡ countsOf a ++ countsOf b
 counts-append [] b = refl

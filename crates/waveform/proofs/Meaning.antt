@@ -16,7 +16,8 @@ use Rattle.pace.proofs.Lasting.{lead-high, tail-high}
 use Rattle.waveform.specs.Meaning.{isEven, SameStart}
 use Rattle.waveform.proofs.Copies.{waveform-ticks}
 use Rattle.waveform.proofs.Turning.{turned, on-behind}
-use Rattle.waveform.proofs.Paced.{Fit, lead, tail, paceAt, tail-some, end-is, gone-low, begun-is, under-way}
+use Rattle.waveform.specs.Paced.{Fit, lead, tail, paceAt}
+use Rattle.waveform.proofs.Paced.{tail-some, end-is, gone-low, begun-is, under-way}
 
 -- ---- the carrier: on in an on count, its start included (y = 0) and its end not
 even-next : (n : ℕ) → isEven (suc n) ≡ not (isEven n)

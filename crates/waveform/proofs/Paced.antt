@@ -14,7 +14,6 @@ use Rattle.words.specs.declared.Pair.{Pair}
 use Rattle.code.specs.Accepted.{Accepted}
 use Rattle.words.specs.declared.Fields.{Fields}
 use Rattle.request.specs.Accepted.{FieldsWithin}
-use Rattle.pace.specs.declared.Pace.{Pace}
 use Rattle.pace.specs.declared.Passed.the-variants.{Running, Complete}
 use Rattle.pace.specs.Pace as pace
 use Rattle.meaning.specs.Time.{inTicks, firstMicro, Transmission, total, done, complete, finish, begun, started, renewed}
@@ -22,32 +21,9 @@ use Rattle.pace.specs.Pace.{periodsOf, paceOf, periods, micros, endOf, passed}
 use Rattle.pace.proofs.Bounds.{finished}
 use Rattle.pace.proofs.Exact.{moment-wait}
 use Rattle.pace.proofs.Lasting.{tail-low}
+use Rattle.waveform.specs.Paced.{removed, lead, tail, paceAt, Fit}
 use Rattle.waveform.proofs.Copies.{waveform-ticks, further-lasts, first-lasts}
 use Rattle.waveform.proofs.Places.{leb-both, none-gone, one-gone, less-left}
-
--- the copies that renewals took off the record
-abbrev pub removed : Transmission → ℕ
-removed s = s .copies - suc (s .fields .repeat)
-
--- what the pairs before the offset last, and those from it on
-abbrev pub lead : Transmission → ℕ
-lead s = periodsOf (take (s .fields .offset / 2) (s .pairs))
-
-abbrev pub tail : Transmission → ℕ
-tail s = periodsOf (drop (s .fields .offset / 2) (s .pairs))
-
--- the record of a transmission at a moment
-unfoldable pub paceAt : Transmission → ℕ → Pace
-paceAt s t = paceOf (lead s) (tail s) (s .copies - removed s) (done s t - removed s * inTicks (tail s))
-
--- a transmission of an accepted command, at a moment since its start; what renewals took off is finished
-pub record Fit (s : Transmission) (t : ℕ) : Type 0 where
-  pub within : FieldsWithin (s .fields)
-  pub accepted : Accepted (s .fields .freq) (s .pairs)
-  pub offset : s .fields .offset < 2 * length (s .pairs)
-  pub since : s .start ≤ t
-  pub enough : s .fields .repeat ≤ s .copies
-  pub gone : removed s * inTicks (tail s) ≤ done s t - inTicks (lead s)
 
 -- ---- the notions in ticks
 pub done-later : (s : Transmission) (t n : ℕ) → s .start ≤ t → done s (t + n) ≡ done s t + n * s .fields .freq

@@ -1,5 +1,5 @@
--- What the log makes of a request that was read: the table's rows once more, by the request and not by the line. A step of the proof that the
--- hub's reading is the table's; no statement that a reader meets names it.
+-- What the log makes of a request that was read: the rows of the table once more, by the request and not by the line. `line-is` of
+-- proofs/Rows.antt says that the two are one.
 use Prim.Native.Nat.{ℕ, _*_}
 use mathlib.Core.Bool.{Bool, cond, not}
 use mathlib.Core.List.{List}

@@ -122,6 +122,7 @@ module _ (log : List Deed) (connection : ℕ) (line : List ℕ) where
   setstate = row (address 2 2 ((not (within 0 1 (field 2)) ⇒ wrong 23) ∷ more 3 ∷ []))
       (reply (text.line "state," 2 p (decimal (number (field 2)))) (switched p (number (field 2)) ∷ []))
 
+  -- module 2 has the relays, module 1 the contacts
   unfoldable pub getstate : Row
   getstate = row (address 1 2
       (more 2
@@ -173,9 +174,7 @@ module _ (log : List Deed) (connection : ℕ) (line : List ℕ) where
       ∷ (is "stopir" (field 0) ⇒ stopir)
       ∷ []) (row [] (no 1))
 
--- ---- completions: "ordered by moment from the wait's start, then by port"
-
--- that on connector p in the next n microseconds, if there is one
+-- ---- completions: what is due on connector p in the next n microseconds, and all "ordered by moment from the wait's start, then by port"
 abbrev pub dueOf : ℕ → ℕ → ℕ → Option ℕ → Option Transmission → List Completion
 dueOf n t p owner none = []
 dueOf n t p owner (some s) = cond (complete s (t + n))

@@ -17,7 +17,7 @@ use Rattle.laws.proofs.Lists.{all-append}
 use Rattle.words.specs.Decimal.{decimal, decimalIn, threeDigits}
 use Rattle.text.proofs.Decimals.{decimal-small}
 use Rattle.meaning.specs.Line as text
-use Rattle.meaning.specs.Log.{Deed, passed, setting, switched, event, changed, felt, contactOf, relayOf}
+use Rattle.meaning.specs.Log.{Deed, passed, setting, switched, event, changed, felt, modeOf, contactOf, relayOf}
 use Rattle.meaning.specs.Table as table
 use Rattle.meaning.specs.Table.{refused, taken, replied, Judged, refusal, error, does, Row, row, no, reply, Call, line, overlong, reading, closing, waiting, answerOf, deedsOf, rowOf, judge, logged, logOf, field, getdevices, getversion, set-IR, get-IR, setstate, getstate, sendir, stopir, request}
 use Rattle.theorems.specs.Deeds.{Port, inSensor, Did, nothing, changes, reads, switches, starts, renews, halts, leaves, passes}
@@ -371,3 +371,19 @@ pub last-switched-is-relay : (log : List Deed) (p state : ℕ) → LastSwitched 
 last-switched-is-relay log p state (never z a) = ap (relayOf p) (sym (append-nil log)) ∙ unswitched p log [] a ∙ sym z
 last-switched-is-relay log p state (last later earlier splits a) =
     rw splits (unswitched p later (switched p state ∷ earlier) a ∙ rw (eq-eqb p p refl))
+
+-- "a change of mode makes the contact unread", whatever call changed it
+pub change-unread : (log : List Deed) (call : Call) (p : ℕ) → (modeOf p (logged log call) ≡ modeOf p log → ⊥)
+    → contactOf p (logged log call) ≡ none
+change-unread log call p differs = go (deedsOf (judge log call)) (did log call) differs
+  where
+    go : (ds : List Deed) → Did log call ds → (modeOf p (ds ++ log) ≡ modeOf p log → ⊥) → contactOf p (ds ++ log) ≡ none
+    go ds nothing d = absurd (d refl)
+    go ds (changes q _ word _ _ _ _ _) d = by-test (eqb q p) (λ t. rw t) (λ t. absurd (d (rw t)))
+    go ds (reads q v _ _ _ _) d = absurd (d refl)
+    go ds (switches q _ state _ _ _) d = absurd (d refl)
+    go ds (starts q _ f ps _ _ _ _ _) d = absurd (d refl)
+    go ds (renews q _ s _ _ _ _ _) d = absurd (d refl)
+    go ds (halts q _ _ _ _) d = absurd (d refl)
+    go ds (leaves c _ _) d = absurd (d refl)
+    go ds (passes n _ _) d = absurd (d refl)

@@ -13,22 +13,19 @@ use Rattle.history.proofs.Shown.{FitFor}
 use Rattle.history.proofs.Logged.{logged-fit}
 
 module _ (h : List Call) (port : ℕ) (s : Transmission) (e : lastOf port (logOf h) ≡ some s) where
-  abbrev t : ℕ
-  t = now (logOf h)
-
-  fit : Fit s t
-  fit = subst (FitFor t) e (logged-fit h port)
+  fit : Fit s (now (logOf h))
+  fit = subst (FitFor (now (logOf h))) e (logged-fit h port)
 
   -- its completion is at the first whole microsecond at which the fraction reaches the total, and at no earlier one
-  pub completion-first : complete s t ≡ false
-      → (t < finish s) × (complete s (finish s) ≡ true) × ((u : ℕ) → s .start ≤ u → complete s u ≡ true → finish s ≤ u)
+  pub completion-first : complete s (now (logOf h)) ≡ false
+      → (now (logOf h) < finish s) × (complete s (finish s) ≡ true) × ((u : ℕ) → s .start ≤ u → complete s u ≡ true → finish s ≤ u)
   completion-first runs = finish-first fit runs
 
   -- of the copies begun, the one before the last is finished, and the last is not
-  pub copies-begun : (inTicks (lasts (waveform (s .fields) (s .pairs) (begun s t - 1))) ≤ done s t)
-      × (done s t < inTicks (lasts (waveform (s .fields) (s .pairs) (begun s t))))
+  pub copies-begun : (inTicks (lasts (waveform (s .fields) (s .pairs) (begun s (now (logOf h)) - 1))) ≤ done s (now (logOf h)))
+      × (done s (now (logOf h)) < inTicks (lasts (waveform (s .fields) (s .pairs) (begun s (now (logOf h))))))
   copies-begun = begun-copies fit
 
   -- at an exact boundary the next copy has begun
-  pub boundary-begun : (n : ℕ) → 1 ≤ n → done s t ≡ inTicks (lasts (waveform (s .fields) (s .pairs) n)) → begun s t ≡ suc n
+  pub boundary-begun : (n : ℕ) → 1 ≤ n → done s (now (logOf h)) ≡ inTicks (lasts (waveform (s .fields) (s .pairs) n)) → begun s (now (logOf h)) ≡ suc n
   boundary-begun = begun-boundary fit

@@ -63,20 +63,17 @@ renewed-often log p s e = subst (Counted log p) e (counted log p)
 
 -- ---- after a history, a transmission on air
 module _ (h : List Call) (p : ℕ) (s : Transmission) (air : onAir p (logOf h) ≡ some s) where
-  abbrev t : ℕ
-  t = now (logOf h)
-
   last : lastOf p (logOf h) ≡ some s
   unfolding onAir
-  last = until-some t (lastOf p (logOf h)) air
+  last = until-some (now (logOf h)) (lastOf p (logOf h)) air
 
-  fit : Fit s t
-  fit = subst (FitFor t) last (logged-fit h p)
+  fit : Fit s (now (logOf h))
+  fit = subst (FitFor (now (logOf h))) last (logged-fit h p)
 
   -- A call renews it: it stays on air, and nothing of it changes but the number of copies, which becomes those begun at this moment plus
   -- repeat; it runs on since its first start.
   pub renewed-exact : (call : Call) → deedsOf (judge (logOf h) call) ≡ event (renewed p) ∷ []
       → onAir p (logOf (call ∷ h))
-      ≡ some (record { fields = s .fields; pairs = s .pairs; start = s .start; copies = begun s t + s .fields .repeat })
+      ≡ some (record { fields = s .fields; pairs = s .pairs; start = s .start; copies = begun s (now (logOf h)) + s .fields .repeat })
   unfolding onAir time.renewed
   renewed-exact call e = rw (e, eq-eqb p p refl, last, renewed-runs fit)

@@ -21,7 +21,7 @@ use Rattle.meaning.specs.Log.{Deed, setting, event, changed, renewed, halted, m
 use Rattle.meaning.specs.Table.{Call, line, Judged, error, does, taken, replied, deedsOf, reply, answerOf, isSame, judge, logged}
 use Rattle.theorems.proofs.Times.{on-air-is}
 use Rattle.theorems.specs.Deeds.{ModeWord}
-use Rattle.theorems.specs.Spelled.{Digits, fields, at, Heard, IsSendir, modeSet, starts, commanded, toldOf, stopped}
+use Rattle.theorems.specs.Spelled.{Digits, settingText, fields, at, Heard, IsSendir, modeSet, starts, commanded, toldOf, stopped}
 use Rattle.theorems.specs.Commands.{Starts, Renews, Busy, Tells, another, idle, ownerless, itself, Stops}
 use Rattle.theorems.proofs.Spelled.{sendir-judged, set-IR-spelled, stopir-spelled}
 
@@ -92,46 +92,43 @@ busy-so log call p id j = record { judged = j; unchanged = ap (λ (x : Judged). 
 -- ---- a sendir without a fault, to a connector that is not in SENSOR
 module _ (log : List Deed) (connection room : ℕ) (s : List ℕ) (p : ℕ) (f : Fields) (ps : List Pair) (h : Heard connection room)
     (x : IsSendir s p f ps) (mode : is "SENSOR" (modeOf p log) ≡ false) where
-  abbrev call : Call
-  call = line connection room s
-
-  judged : judge log call ≡ commanded log connection p f ps
+  judged : judge log (line connection room s) ≡ commanded log connection p f ps
   judged = sendir-judged log connection room s p f ps h x
 
   -- "sendir to an idle connector starts with the sender as owner."
-  pub idle-starts : onAir p log ≡ none → Starts log call connection p f ps
+  pub idle-starts : onAir p log ≡ none → Starts log (line connection room s) connection p f ps
   idle-starts silent =
       let c : commanded log connection p f ps ≡ starts connection p f ps = rw (mode, silent) in
-      started-so log call connection p f ps (judged ∙ c)
+      started-so log (line connection room s) connection p f ps (judged ∙ c)
 
   module _ (t : Transmission) (air : onAir p log ≡ some t) where
     -- "From the owner, with equal id, freq, capped repeat, offset and pairs (plain or lettered alike): the transmission is renewed."
-    pub owner-renews : ownerOf p log ≡ some connection → t .fields ≡ f → t .pairs ≡ ps → Renews log call connection p f ps t
+    pub owner-renews : ownerOf p log ≡ some connection → t .fields ≡ f → t .pairs ≡ ps → Renews log (line connection room s) connection p f ps t
     owner-renews o ef ep =
         let c : commanded log connection p f ps ≡ does (taken []) (event (renewed p) ∷ []) =
         rw (mode, air, o, eq-eqb connection connection refl, same-refl f ps t ef ep) in
-        renewed-so log call connection p f ps t (judged ∙ c) o (on-air-is p log t air .0) ef ep
+        renewed-so log (line connection room s) connection p f ps t (judged ∙ c) o (on-air-is p log t air .0) ef ep
 
     -- "From the owner with any other field: the old one is dropped without a notice and the new one starts."
-    pub owner-starts-anew : ownerOf p log ≡ some connection → (t .fields ≡ f → t .pairs ≡ ps → ⊥) → Starts log call connection p f ps
+    pub owner-starts-anew : ownerOf p log ≡ some connection → (t .fields ≡ f → t .pairs ≡ ps → ⊥) → Starts log (line connection room s) connection p f ps
     owner-starts-anew o differs =
         let other : isSame f ps t ≡ false =
         by-test (isSame f ps t) (λ e. let g = same-command f ps t e in absurd (differs (g .0) (g .1))) (λ e. e) in
         let c : commanded log connection p f ps ≡ starts connection p f ps =
         rw (mode, air, o, eq-eqb connection connection refl, other) in
-        started-so log call connection p f ps (judged ∙ c)
+        started-so log (line connection room s) connection p f ps (judged ∙ c)
 
     -- "From another connection, or if there is no owner: busyIR with the refused line's id, hub unchanged."
-    pub others-busy : (other : ℕ) → ownerOf p log ≡ some other → (other ≡ connection → ⊥) → Busy log call p (f .id)
+    pub others-busy : (other : ℕ) → ownerOf p log ≡ some other → (other ≡ connection → ⊥) → Busy log (line connection room s) p (f .id)
     others-busy other o differs =
         let c : commanded log connection p f ps ≡ reply (text.line "busyIR," 1 p (decimal (f .id))) [] =
         rw (mode, air, o, ne-eqb other connection differs) in
-        busy-so log call p (f .id) (judged ∙ c)
+        busy-so log (line connection room s) p (f .id) (judged ∙ c)
 
-    pub ownerless-busy : ownerOf p log ≡ none → Busy log call p (f .id)
+    pub ownerless-busy : ownerOf p log ≡ none → Busy log (line connection room s) p (f .id)
     ownerless-busy o =
         let c : commanded log connection p f ps ≡ reply (text.line "busyIR," 1 p (decimal (f .id))) [] = rw (mode, air, o) in
-        busy-so log call p (f .id) (judged ∙ c)
+        busy-so log (line connection room s) p (f .id) (judged ∙ c)
 
 -- "sendir .. to a connector in SENSOR": 013
 pub sensor-refuses : (log : List Deed) (connection room : ℕ) (s : List ℕ) (p : ℕ) (f : Fields) (ps : List Pair) → Heard connection room
@@ -170,25 +167,22 @@ stop-tells log connection room {dm} {dp} {p} h one port least most mode =
 -- ---- set_IR
 module _ (log : List Deed) (connection room : ℕ) {dm dp mode : List ℕ} {p : ℕ} (h : Heard connection room) (one : Digits dm 1)
     (port : Digits dp p) (least : 1 ≤ p) (most : p ≤ 3) (word : ModeWord p mode) where
-  abbrev setting-line : Call
-  setting-line = line connection room (fields (bytes "set_IR" ∷ at dm dp ∷ mode ∷ []))
-
-  set-judged : judge log setting-line ≡ modeSet log p mode
+  set-judged : judge log (line connection room (settingText dm dp mode)) ≡ modeSet log p mode
   set-judged = set-IR-spelled log connection room h port least most one word
 
   -- 029 "set_IR while that connector transmits", in whatever mode and whoever owns it
-  pub busy-mode : (t : Transmission) → onAir p log ≡ some t → judge log setting-line ≡ error 29 1 p
+  pub busy-mode : (t : Transmission) → onAir p log ≡ some t → judge log (line connection room (settingText dm dp mode)) ≡ error 29 1 p
   busy-mode t air = let c : modeSet log p mode ≡ error 29 1 p = rw air in set-judged ∙ c
 
   -- "the present mode again changes nothing"
-  pub mode-again : onAir p log ≡ none → modeOf p log ≡ mode → judge log setting-line ≡ reply (text.line "IR," 1 p mode) []
+  pub mode-again : onAir p log ≡ none → modeOf p log ≡ mode → judge log (line connection room (settingText dm dp mode)) ≡ reply (text.line "IR," 1 p mode) []
   mode-again silent present =
       let c : modeSet log p mode ≡ reply (text.line "IR," 1 p mode) [] = rw (silent, present, same-self mode) in
       set-judged ∙ c
 
   -- "a change of mode makes the contact unread"
   pub mode-unread : onAir p log ≡ none → (modeOf p log ≡ mode → ⊥)
-      → (modeOf p (logged log setting-line) ≡ mode) × (contactOf p (logged log setting-line) ≡ none)
+      → (modeOf p (logged log (line connection room (settingText dm dp mode))) ≡ mode) × (contactOf p (logged log (line connection room (settingText dm dp mode))) ≡ none)
   mode-unread silent differs =
       let other : same (modeOf p log) mode ≡ false =
       by-test (same (modeOf p log) mode) (λ e. absurd (differs (same-is (modeOf p log) mode e))) (λ e. e) in

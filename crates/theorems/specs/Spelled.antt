@@ -32,6 +32,10 @@ fields l = joined 44 l
 abbrev pub at : List ℕ → List ℕ → List ℕ
 at m p = joined 58 (m ∷ p ∷ [])
 
+-- "set_IR,m:p,mode"
+abbrev pub settingText : List ℕ → List ℕ → List ℕ → List ℕ
+settingText m p mode = fields (bytes "set_IR" ∷ at m p ∷ mode ∷ [])
+
 -- who may be heard: 102, 101
 pub record Heard (connection room : ℕ) : Type 0 where
   pub known : connection ≤ 7

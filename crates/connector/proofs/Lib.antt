@@ -2,4 +2,3 @@ pub mod Deciding
 pub mod Keeps
 pub mod Contacts
 pub mod Completing
-pub mod Ordered

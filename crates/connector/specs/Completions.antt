@@ -1,7 +1,5 @@
 -- The completions of a wait: "ordered by moment from the wait's start, then by port".
-use Prim.Native.Nat.{ℕ, _+_, _-_, _<_}
-use mathlib.Core.Path.{_≡_}
-use mathlib.Core.Logic.{_⊎_}
+use Prim.Native.Nat.{ℕ, _+_, _-_}
 use mathlib.Core.Bool.{cond}
 use mathlib.Core.List.{List, [], _∷_, _++_}
 use lib.Dec.{eqb, ltb}
@@ -48,18 +46,6 @@ putIn s x = first
 abbrev pub joinedIn : Completions → Done → Completions
 joinedIn s Nothing = s
 joinedIn s (Complete x) = putIn s x
-
--- ---- their order
-
--- x is earlier than y, or at the same moment and on a lower port
-abbrev pub Before : Completion → Completion → Type 0
-Before x y = (x .moment .0 < y .moment .0) ⊎ ((x .moment .0 ≡ y .moment .0) × (x .port < y .port))
-
--- of each two neighbours the former comes before the latter
-abbrev pub Sorted : List Completion → Type 0
-Sorted [] = Unit
-Sorted (x ∷ []) = Unit
-Sorted (x ∷ y ∷ l) = Before x y × Sorted (y ∷ l)
 
 -- the completion of one connector, if there is one
 abbrev pub doneOf : Done → List Completion

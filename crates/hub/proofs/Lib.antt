@@ -1,5 +1,4 @@
 pub mod Answering
-pub mod Ordered
 pub mod Keeps
 pub mod Contacts
 pub mod Refusals

@@ -4,5 +4,4 @@ pub mod Line
 pub mod Calls
 pub mod Wait
 pub mod Refusals
-pub mod Ordered
 pub mod Closing

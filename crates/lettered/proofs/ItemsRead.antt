@@ -10,7 +10,7 @@ use lib.ListN.{length, drop, getD, length-append}
 use lib.Seq.{append-snoc}
 use Rattle.laws.proofs.Choice.{and-left, and-right}
 use Rattle.laws.proofs.Lists.{stands-at, stands-below, stands-end, stands-behind}
-use Rattle.words.specs.Digits.{isDigit}
+use Rattle.words.specs.Digits.{isDigit, Spells}
 use Rattle.text.specs.Number.{run}
 use Rattle.text.proofs.Reading.{digit-range}
 use Rattle.text.proofs.Behind.{digits-first, digits-below, digits-read}
@@ -24,7 +24,7 @@ use Rattle.code.specs.Limits.{legal}
 use Rattle.code.specs.Next.{isLetter, countAt, offAt, afterOn, spelledAt, letterAt, begunAt, begins, nextPair}
 use Rattle.code.specs.Read.{pairs, readFrom}
 use Rattle.code.proofs.Nexts.{Ends}
-use Rattle.lettered.specs.Lettered.{Spells, Item, spelled, letter, itemText, lettered, Stands, Expands, none, more}
+use Rattle.lettered.specs.Lettered.{Item, spelled, letter, itemText, lettered, Stands, Expands, none, more}
 use Rattle.lettered.proofs.Learnt.{lettered-few, lettered-more, learnt-again}
 use Rattle.lettered.proofs.Written.{afterOf, front, front-letter, textFrom, stops}
 

@@ -11,7 +11,7 @@ use lib.Seq.{drop-drop}
 use Rattle.laws.specs.Lists.{all}
 use Rattle.laws.proofs.Choice.{cond-case}
 use Rattle.laws.proofs.Lists.{drop-next}
-use Rattle.words.specs.Digits.{isDigit, worth}
+use Rattle.words.specs.Digits.{isDigit, worth, Spells}
 use Rattle.text.specs.Number.{run, numberOf, numberAt}
 use Rattle.text.specs.declared.number.Number.{Number}
 use Rattle.text.specs.declared.number.Number.the-variants.{Missing, TooLong, Value}
@@ -24,7 +24,7 @@ use Rattle.code.specs.declared.next.After.the-variants.{Nothing, Spelling, Lett
 use Rattle.code.specs.Limits.{legal}
 use Rattle.code.specs.Next.{isLetter, judged, countAt, paired, offAt, afterOn, counted, spelledAt, letterAt, begunAt, begins, atEnd, nextPair}
 use Rattle.code.proofs.Nexts.{letter-low}
-use Rattle.lettered.specs.Lettered.{Spells, spelled, itemText}
+use Rattle.lettered.specs.Lettered.{spelled, itemText}
 use Rattle.lettered.proofs.Written.{front}
 
 -- ---- the digits that a text begins with

@@ -7,19 +7,10 @@ use mathlib.Core.Bool.{true}
 use mathlib.Core.List.{List, [], _∷_, _++_}
 use lib.ListN.{length, take, getD}
 use Rattle.laws.specs.Bytes.{bytes}
-use Rattle.laws.specs.Lists.{all}
-use Rattle.words.specs.Digits.{isDigit, worth}
+use Rattle.words.specs.Digits.{Spells}
 use Rattle.words.specs.declared.Pair.{Pair}
 use Rattle.code.specs.Limits.{legalPair}
 use Rattle.words.specs.Pairs.{pair, distinct}
-
--- "A number is a run of decimal digits; leading zeros count for nothing. A run of over 6 digits, zeros included, is out
--- of range."
-pub record Spells (digits : List ℕ) (n : ℕ) : Type 0 where
-  pub some : 1 ≤ length digits
-  pub few : length digits ≤ 6
-  pub decimal : all isDigit digits ≡ true
-  pub value : worth 0 digits ≡ n
 
 -- a pair spelled by the digits of its on and off count, or a letter, A being 0
 pub data Item : Type 0 where

@@ -13,7 +13,7 @@ use Rattle.laws.specs.Put.{Put}
 use Rattle.laws.proofs.Choice.{by-test, cond-case}
 use Rattle.laws.proofs.Lists.{all-append}
 use Rattle.laws.proofs.Put.{put-length, then, byte}
-use Rattle.words.specs.Digits.{isDigit, worth}
+use Rattle.words.specs.Digits.{isDigit, worth, Spells}
 use Rattle.words.specs.Decimal.{decimalIn, decimal}
 
 tenth : (n p : ℕ) → n < 10 * p → n / 10 < p
@@ -115,6 +115,9 @@ decimal-value n h = fine 20 n .value h
 
 pub decimal-worth : (n : ℕ) → n < 1000000 → worth 0 (decimal n) ≡ n
 decimal-worth n h = decimal-value n (omega arith)
+
+pub decimal-spells : (n : ℕ) → n < 1000000 → Spells (decimal n) n
+decimal-spells n h = record { some = decimal-some n; few = decimal-few n h; decimal = decimal-digits n; value = decimal-worth n h }
 
 -- ---- no zero in front
 some-digit : (k n : ℕ) → 1 ≤ length (decimalIn (suc k) n)

@@ -13,6 +13,7 @@ use Rattle.laws.proofs.Lists.{same-is, same-self}
 use Rattle.words.specs.Decimal.{decimal}
 use Rattle.words.specs.declared.Pair.{Pair}
 use Rattle.words.specs.declared.Fields.{Fields}
+use Rattle.words.specs.Digits.{Spells}
 use Rattle.meaning.specs.Line as text
 use Rattle.meaning.specs.Line.{is, addressed}
 use Rattle.meaning.specs.Time.{Transmission, countsOf}
@@ -21,7 +22,7 @@ use Rattle.meaning.specs.Log.{Deed, setting, event, changed, renewed, halted, m
 use Rattle.meaning.specs.Table.{Call, line, Judged, error, does, taken, replied, deedsOf, reply, answerOf, isSame, judge, logged}
 use Rattle.theorems.proofs.Times.{on-air-is}
 use Rattle.theorems.specs.Deeds.{ModeWord}
-use Rattle.theorems.specs.Spelled.{Digits, settingText, fields, at, Heard, IsSendir, modeSet, starts, commanded, toldOf, stopped}
+use Rattle.theorems.specs.Spelled.{settingText, fields, at, Heard, IsSendir, modeSet, starts, commanded, toldOf, stopped}
 use Rattle.theorems.specs.Commands.{Starts, Renews, Busy, Tells, another, idle, ownerless, itself, Stops}
 use Rattle.theorems.proofs.Spelled.{sendir-judged, set-IR-spelled, stopir-spelled}
 
@@ -148,7 +149,7 @@ module _ (log : List Deed) (connection p : ℕ) where
       (λ g. rw (f, e, g) (another f e (eqb-false other connection g)))
 
 -- "stopir .. 013": not in SENSOR it is always done
-pub stop-tells : (log : List Deed) (connection room : ℕ) {dm dp : List ℕ} {p : ℕ} → Heard connection room → Digits dm 1 → Digits dp p
+pub stop-tells : (log : List Deed) (connection room : ℕ) {dm dp : List ℕ} {p : ℕ} → Heard connection room → Spells dm 1 → Spells dp p
     → 1 ≤ p → p ≤ 3 → is "SENSOR" (modeOf p log) ≡ false
     → Stops log (line connection room (fields (bytes "stopir" ∷ at dm dp ∷ []))) connection p
 unfolding onAir
@@ -165,8 +166,8 @@ stop-tells log connection room {dm} {dp} {p} h one port least most mode =
     }
 
 -- ---- set_IR
-module _ (log : List Deed) (connection room : ℕ) {dm dp mode : List ℕ} {p : ℕ} (h : Heard connection room) (one : Digits dm 1)
-    (port : Digits dp p) (least : 1 ≤ p) (most : p ≤ 3) (word : ModeWord p mode) where
+module _ (log : List Deed) (connection room : ℕ) {dm dp mode : List ℕ} {p : ℕ} (h : Heard connection room) (one : Spells dm 1)
+    (port : Spells dp p) (least : 1 ≤ p) (most : p ≤ 3) (word : ModeWord p mode) where
   set-judged : judge log (line connection room (settingText dm dp mode)) ≡ modeSet log p mode
   set-judged = set-IR-spelled log connection room h port least most one word
 

@@ -341,7 +341,7 @@ errors-say-so n m p = refl
 
 -- ---- the text of an error tells its number and its address
 
-three-worth : (n : ℕ) → n < 1000 → worth 0 (threeDigits n) ≡ n
+pub three-worth : (n : ℕ) → n < 1000 → worth 0 (threeDigits n) ≡ n
 three-worth n h = omega arith
 
 pub three-digits : (n k : ℕ) → n < 1000 → k < 1000 → threeDigits n ≡ threeDigits k → n ≡ k

@@ -15,7 +15,7 @@ use Rattle.laws.specs.Lists.{all, cut, part, behind, free}
 use Rattle.laws.proofs.Choice.{by-test, not-both, and-left, and-right, and-true}
 use Rattle.laws.proofs.Lists.{all-append, all-weaker}
 use Rattle.laws.proofs.Joining.{cut-next, cut-free, cut-joined, behind-joined, all-joined}
-use Rattle.words.specs.Digits.{isDigit}
+use Rattle.words.specs.Digits.{isDigit, Spells}
 use Rattle.words.specs.declared.Pair.{Pair}
 use Rattle.words.specs.declared.Fields.{Fields}
 use Rattle.text.proofs.Reading.{digit-range}
@@ -24,7 +24,7 @@ use Rattle.meaning.specs.Log.{Deed}
 use Rattle.meaning.specs.Table.{Judged, Row, line, judge, request, getdevices, getversion, set-IR, get-IR, setstate, getstate, sendir, stopir}
 use Rattle.theorems.proofs.Occasions.{within-between, only}
 use Rattle.theorems.specs.Deeds.{ModeWord, ir, sensor, blaster}
-use Rattle.theorems.specs.Spelled.{Digits, fields, at, Heard, Legal, command, IsSendir, devicesTold, versionTold, modeSet, modeTold, relaySet, relayTold, contactTold, commanded, stopped}
+use Rattle.theorems.specs.Spelled.{fields, at, Heard, Legal, command, IsSendir, devicesTold, versionTold, modeSet, modeTold, relaySet, relayTold, contactTold, commanded, stopped}
 
 -- ---- a line that is heard, by its length and its bytes, is judged by its request's row
 module _ (log : List Deed) (connection room : ℕ) (s : List ℕ) (h : Heard connection room) (short : length s ≤ 4096)
@@ -80,10 +80,10 @@ sendir-judged log connection room s p f ps h x =
     ∙ sendir-row log connection s p f ps x
 
 -- ---- digits
-module _ {ds : List ℕ} {n : ℕ} (d : Digits ds n) where
+module _ {ds : List ℕ} {n : ℕ} (d : Spells ds n) where
   digits-number : isNumber ds ≡ true
   unfolding isNumber
-  digits-number = and-true _ _ (d .digits) (lt-ltb 0 (length ds) (d .some))
+  digits-number = and-true _ _ (d .decimal) (lt-ltb 0 (length ds) (d .some))
 
   digits-within : (least most : ℕ) → least ≤ n → n ≤ most → within least most ds ≡ true
   unfolding within
@@ -96,7 +96,7 @@ module _ {ds : List ℕ} {n : ℕ} (d : Digits ds n) where
       (λ b e.
       let r = digit-range b e in
       rw (ne-eqb b c (λ (g : b ≡ c). apart o r g)))
-      ds (d .digits)
+      ds (d .decimal)
     where
       apart : {b : ℕ} → (c < 48) ⊎ (57 < c) → (48 ≤ b) × (b ≤ 57) → b ≡ c → ⊥
       apart (inl h) r g = omega arith
@@ -105,7 +105,7 @@ module _ {ds : List ℕ} {n : ℕ} (d : Digits ds n) where
   digits-visible : all (between 32 126) ds ≡ true
   digits-visible =
       all-weaker isDigit (between 32 126)
-      (λ b e. let r = digit-range b e in rw (le-leb 32 b (omega arith), le-leb b 126 (omega arith))) ds (d .digits)
+      (λ b e. let r = digit-range b e in rw (le-leb 32 b (omega arith), le-leb b 126 (omega arith))) ds (d .decimal)
 
 -- ---- fields that are short, printable and without a comma
 abbrev plain : List ℕ → Bool
@@ -147,7 +147,7 @@ module _ (log : List Deed) (connection room : ℕ) (h : Heard connection room) (
       (all-joined 44 (between 32 126) refl (w ∷ ws) (plain-visible (w ∷ ws) e)) (request log connection (fields (w ∷ ws))) refl
       ∙ row (fields (w ∷ ws)) (plain-cut w ws e)
 
-digits-plain : {ds : List ℕ} {n : ℕ} → Digits ds n → plain ds ≡ true
+digits-plain : {ds : List ℕ} {n : ℕ} → Spells ds n → plain ds ≡ true
 digits-plain {ds} d = plain-of ds (digits-free d 44 (inl (omega arith))) (digits-visible d) (omega (arith, d .few))
 
 -- ---- an address
@@ -159,7 +159,7 @@ record IsAt (f : List ℕ) (m p : ℕ) : Type 0 where
   port : within 1 3 (part 58 1 f) ≡ true
   fair : plain f ≡ true
 
-is-at : {dm dp : List ℕ} {m p : ℕ} → Digits dm m → Digits dp p → 1 ≤ p → p ≤ 3 → IsAt (at dm dp) m p
+is-at : {dm dp : List ℕ} {m p : ℕ} → Spells dm m → Spells dp p → 1 ≤ p → p ≤ 3 → IsAt (at dm dp) m p
 unfolding isAddress
 is-at {dm} {dp} {m} {p} a b l h =
     let c = cut-joined 58 (dm ∷ []) dp (rw (digits-free a 58 (inr (omega arith)))) ∙ ap (λ (x : List (List ℕ)). dm ∷ x) (cut-free 58 dp (digits-free b 58 (inr (omega arith)))) in
@@ -210,7 +210,7 @@ module _ (log : List Deed) (connection : ℕ) (s : List ℕ) where
     unfolding request get-IR
     get-IR-row a e = rw (e, a .whole, a .from 1 1 (omega arith) (omega arith), a .port, a .portIs)
 
-    setstate-row : {ds : List ℕ} {state : ℕ} → IsAt f 2 p → Digits ds state → state ≤ 1 → cut 44 s ≡ bytes "setstate" ∷ f ∷ ds ∷ []
+    setstate-row : {ds : List ℕ} {state : ℕ} → IsAt f 2 p → Spells ds state → state ≤ 1 → cut 44 s ≡ bytes "setstate" ∷ f ∷ ds ∷ []
         → asked log connection s ≡ relaySet p state
     unfolding request setstate
     setstate-row a d l e =
@@ -249,9 +249,9 @@ module _ (log : List Deed) (connection room : ℕ) (h : Heard connection room) w
   getversion-spelled =
       spelled log connection room h (bytes "getversion") [] versionTold refl (omega arith) (λ s e. getversion-row log connection s e)
 
-  module _ {dm dp : List ℕ} {p : ℕ} (port : Digits dp p) (least : 1 ≤ p) (most : p ≤ 3) where
+  module _ {dm dp : List ℕ} {p : ℕ} (port : Spells dp p) (least : 1 ≤ p) (most : p ≤ 3) where
     -- set_IR,1:p,mode
-    pub set-IR-spelled : {mode : List ℕ} → Digits dm 1 → ModeWord p mode
+    pub set-IR-spelled : {mode : List ℕ} → Spells dm 1 → ModeWord p mode
         → judge log (line connection room (fields (bytes "set_IR" ∷ at dm dp ∷ mode ∷ []))) ≡ modeSet log p mode
     set-IR-spelled {mode} one w =
         let a = is-at one port least most in
@@ -259,14 +259,14 @@ module _ (log : List Deed) (connection room : ℕ) (h : Heard connection room) w
         (rw (a .fair, worded w .fair)) (omega arith) (λ s e. set-IR-row log connection s a (worded w) e)
 
     -- get_IR,1:p
-    pub get-IR-spelled : Digits dm 1 → judge log (line connection room (fields (bytes "get_IR" ∷ at dm dp ∷ []))) ≡ modeTold log p
+    pub get-IR-spelled : Spells dm 1 → judge log (line connection room (fields (bytes "get_IR" ∷ at dm dp ∷ []))) ≡ modeTold log p
     get-IR-spelled one =
         let a = is-at one port least most in
         spelled log connection room h (bytes "get_IR") (at dm dp ∷ []) (modeTold log p) (rw (a .fair)) (omega arith)
         (λ s e. get-IR-row log connection s a e)
 
     -- setstate,2:p,s
-    pub setstate-spelled : {ds : List ℕ} {state : ℕ} → Digits dm 2 → Digits ds state → state ≤ 1
+    pub setstate-spelled : {ds : List ℕ} {state : ℕ} → Spells dm 2 → Spells ds state → state ≤ 1
         → judge log (line connection room (fields (bytes "setstate" ∷ at dm dp ∷ ds ∷ []))) ≡ relaySet p state
     setstate-spelled {ds} {state} two d l =
         let a = is-at two port least most in
@@ -274,7 +274,7 @@ module _ (log : List Deed) (connection room : ℕ) (h : Heard connection room) w
         (omega arith) (λ s e. setstate-row log connection s a d l e)
 
     -- getstate,2:p
-    pub getstate-relay-spelled : Digits dm 2
+    pub getstate-relay-spelled : Spells dm 2
         → judge log (line connection room (fields (bytes "getstate" ∷ at dm dp ∷ []))) ≡ relayTold log p
     getstate-relay-spelled two =
         let a = is-at two port least most in
@@ -282,7 +282,7 @@ module _ (log : List Deed) (connection room : ℕ) (h : Heard connection room) w
         (λ s e. getstate-relay-row log connection s a e)
 
     -- getstate,1:p
-    pub getstate-contact-spelled : Digits dm 1
+    pub getstate-contact-spelled : Spells dm 1
         → judge log (line connection room (fields (bytes "getstate" ∷ at dm dp ∷ []))) ≡ contactTold log p
     getstate-contact-spelled one =
         let a = is-at one port least most in
@@ -290,7 +290,7 @@ module _ (log : List Deed) (connection room : ℕ) (h : Heard connection room) w
         (λ s e. getstate-contact-row log connection s a e)
 
     -- stopir,1:p
-    pub stopir-spelled : Digits dm 1
+    pub stopir-spelled : Spells dm 1
         → judge log (line connection room (fields (bytes "stopir" ∷ at dm dp ∷ []))) ≡ stopped log connection p
     stopir-spelled one =
         let a = is-at one port least most in
@@ -350,8 +350,8 @@ unfolding codeIn
 code-printable freq code ps e = reads-printable code freq [] opening ps e
 
 -- ---- sendir,1:p,id,freq,repeat,offset,code
-module _ {p id freq repeat offset : ℕ} {ps : List Pair} {did dfreq drepeat doffset : List ℕ} (i : Digits did id) (f : Digits dfreq freq)
-    (r : Digits drepeat repeat) (o : Digits doffset offset) (l : Legal id freq repeat offset ps) where
+module _ {p id freq repeat offset : ℕ} {ps : List Pair} {did dfreq drepeat doffset : List ℕ} (i : Spells did id) (f : Spells dfreq freq)
+    (r : Spells drepeat repeat) (o : Spells doffset offset) (l : Legal id freq repeat offset ps) where
   -- a line that is cut into such fields
   sendir-of : (s address code : List ℕ) (rest : List (List ℕ))
       → cut 44 s ≡ bytes "sendir" ∷ address ∷ did ∷ dfreq ∷ drepeat ∷ doffset ∷ rest → behind 44 6 s ≡ code → IsAt address 1 p
@@ -378,7 +378,7 @@ module _ {p id freq repeat offset : ℕ} {ps : List Pair} {did dfreq drepeat dof
         inside = l .inside;
       }
 
-  pub sendir-spelled : {dm dp : List ℕ} (code : List ℕ) → Digits dm 1 → Digits dp p → 1 ≤ p → p ≤ 3 → codeIn freq code ≡ sound ps
+  pub sendir-spelled : {dm dp : List ℕ} (code : List ℕ) → Spells dm 1 → Spells dp p → 1 ≤ p → p ≤ 3 → codeIn freq code ≡ sound ps
       → length (fields (bytes "sendir" ∷ at dm dp ∷ did ∷ dfreq ∷ drepeat ∷ doffset ∷ code ∷ [])) ≤ 4096
       → IsSendir (fields (bytes "sendir" ∷ at dm dp ∷ did ∷ dfreq ∷ drepeat ∷ doffset ∷ code ∷ [])) p (command id freq repeat offset) ps
   sendir-spelled {dm} {dp} code one port least most c short =

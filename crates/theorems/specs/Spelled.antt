@@ -9,7 +9,6 @@ use lib.ListN.{length}
 use Rattle.laws.specs.Bytes.{bytes}
 use Rattle.laws.specs.Checks.{_⇒_, first, between, holds, isSome}
 use Rattle.laws.specs.Lists.{all, same, part, behind, joined}
-use Rattle.words.specs.Digits.{isDigit, worth}
 use Rattle.words.specs.Decimal.{decimal}
 use Rattle.words.specs.declared.Pair.{Pair}
 use Rattle.words.specs.declared.Fields.{Fields}
@@ -17,13 +16,6 @@ use Rattle.meaning.specs.Line as text
 use Rattle.meaning.specs.Line.{is, number, within, isAddress, addressed, sound, codeIn}
 use Rattle.meaning.specs.Log.{Deed, setting, switched, event, changed, started, renewed, halted, modeOf, contactOf, relayOf, ownerOf, isOwner, onAir}
 use Rattle.meaning.specs.Table.{Judged, error, does, taken, replied, reply, isSame}
-
--- digits of the number n: "leading zeros count for nothing", "a run of over 6 digits .. is out of range"
-pub record Digits (ds : List ℕ) (n : ℕ) : Type 0 where
-  pub some : 1 ≤ length ds
-  pub few : length ds ≤ 6
-  pub digits : all isDigit ds ≡ true
-  pub value : worth 0 ds ≡ n
 
 -- fields with commas between them; an address m:p
 abbrev pub fields : List (List ℕ) → List ℕ

@@ -10,14 +10,12 @@ use lib.ListN.{length}
 use borrow.Author.Tests.{ltb-true, ltb-false, lt-ltb, le-ltb, le-leb, leb-true, eqb-true, eqb-false, eq-eqb, ne-eqb}
 use Rattle.laws.proofs.Choice.{by-test, not-both}
 use Rattle.meaning.specs.Time.{inTicks, firstMicro, onAt, Transmission, waveform, lasts, total, done, complete, finish, carrier, begun, renewed}
-use Rattle.pace.specs.Pace.{SoundPace}
 use Rattle.pace.proofs.Exact.{first-micro}
-use Rattle.pace.proofs.Lasting.{lead-high, tail-high}
 use Rattle.waveform.specs.Meaning.{isEven, SameStart}
 use Rattle.waveform.proofs.Copies.{waveform-ticks}
 use Rattle.waveform.proofs.Turning.{turned, on-behind}
-use Rattle.waveform.specs.Paced.{Fit, lead, tail, paceAt}
-use Rattle.waveform.proofs.Paced.{tail-some, end-is, gone-low, begun-is, under-way}
+use Rattle.waveform.specs.Paced.{Fit, lead, tail}
+use Rattle.waveform.proofs.Paced.{tail-some, begun-is}
 
 -- ---- the carrier: on in an on count, its start included (y = 0) and its end not
 even-next : (n : ℕ) → isEven (suc n) ≡ not (isEven n)
@@ -131,18 +129,6 @@ module _ {s : Transmission} {t : ℕ} (g : Fit s t) where
       let w = waveform-ticks (s .fields) (s .pairs) (g .within .offset-odd) n h in
       let d : done s t - inTicks (lead s) ≡ n * inTicks (tail s) = omega arith in
       begun-is g ∙ rw d (ap suc (mul-div-cancel n {n = inTicks (tail s)} (omega (arith, tail-some g))))
-
-  -- ---- the record stays within its bounds
-  pub pace-sound : complete s t ≡ false → SoundPace (paceAt s t)
-  unfolding paceAt
-  pace-sound runs =
-      record {
-        lead-high = lead-high (g .accepted) (s .fields .offset / 2);
-        tail-low = tail-some g;
-        tail-high = tail-high (g .accepted) (s .fields .offset / 2);
-        copies-high = omega (arith, g .within .repeat-most);
-        under-way = omega (arith, end-is g, gone-low g, under-way g runs, tail-some g);
-      }
 
 -- ---- "A line may be renewed for days."
 -- the total of a renewed transmission, which runs since its first start

@@ -43,7 +43,7 @@ unfolding sendirHead
 line-is port f code = simp append-assoc
 
 -- ---- the fields
-capped-twice : (n : ℕ) → capped (capped n) ≡ capped n
+pub capped-twice : (n : ℕ) → capped (capped n) ≡ capped n
 unfolding capped
 capped-twice n = rw (le-ltb 20 (capped n) (capped-high n))
 

@@ -9,8 +9,7 @@ use lib.Dec.{ltb}
 use lib.ListN.{length, drop}
 use Rattle.laws.specs.Lists.{all}
 use Rattle.laws.proofs.Choice.{by-test, and-left, and-right}
-use Rattle.words.specs.Decimal.{decimal}
-use Rattle.text.proofs.Decimals.{decimal-digits, decimal-few, decimal-some, decimal-worth}
+use Rattle.text.proofs.Decimals.{decimal-spells}
 use Rattle.words.specs.declared.Pair.{Pair}
 use Rattle.code.specs.Limits.{legal, legalPair}
 use Rattle.code.specs.Letters.{placeOf}
@@ -18,7 +17,7 @@ use Rattle.code.specs.Read.{pairs, readCode}
 use Rattle.code.proofs.Smallest.{legal-is}
 use Rattle.code.proofs.Lettering.{place-is}
 use Rattle.code.specs.Accepted.{Accepted}
-use Rattle.lettered.specs.Lettered.{Spells, lettered, Stands, Expands, none, more, Means}
+use Rattle.lettered.specs.Lettered.{lettered, Stands, Expands, none, more, Means}
 use Rattle.lettered.proofs.Learnt.{lettered-more}
 use Rattle.lettered.proofs.Exactly.{means-read}
 use Rattle.writer.specs.declared.Form.{Form}
@@ -28,11 +27,6 @@ use Rattle.writer.proofs.Writing.{item-letter, item-spelled, at-most}
 -- a legal count has at most six digits
 pub legal-small : (freq n : ℕ) → legal freq n ≡ true → n < 1000000
 legal-small freq n h = omega (arith, legal-is {freq = freq} {count = n} h .high)
-
-decimal-spells : (freq n : ℕ) → legal freq n ≡ true → Spells (decimal n) n
-decimal-spells freq n h =
-    let l = legal-small freq n h in
-    record { some = decimal-some n; few = decimal-few n l; decimal = decimal-digits n; value = decimal-worth n l }
 
 -- each item stands for its pair
 stands : (form : Form) (freq : ℕ) (before : List Pair) (p : Pair) → legalPair freq p ≡ true
@@ -46,8 +40,8 @@ stands form freq before p h =
     rw (item-letter form t p l) (m, place-is p t m))
     (λ e.
     rw (item-spelled form t p (ltb-false (placeOf p t) (inUse form (length t)) e)) (
-      decimal-spells freq (p .on) (and-left (legal freq (p .on)) _ h),
-      decimal-spells freq (p .off) (and-right (legal freq (p .on)) _ h),
+      decimal-spells (p .on) (legal-small freq (p .on) (and-left (legal freq (p .on)) _ h)),
+      decimal-spells (p .off) (legal-small freq (p .off) (and-right (legal freq (p .on)) _ h)),
       h,
     ))
 

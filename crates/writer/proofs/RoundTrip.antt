@@ -10,13 +10,13 @@ use lib.ListN.{length, take}
 use Rattle.laws.specs.Bytes.{bytes}
 use Rattle.laws.specs.Lists.{all}
 use Rattle.laws.specs.Put.{over}
-use Rattle.laws.proofs.Choice.{by-test, cond-case}
+use Rattle.laws.proofs.Choice.{cond-case}
 use Rattle.laws.proofs.Put.{over-front}
-use Rattle.words.specs.Digits.{isDigit}
+use Rattle.words.specs.Digits.{isDigit, Spells}
 use Rattle.words.specs.Decimal.{decimal}
 use Rattle.text.proofs.Reading.{digit-range}
-use Rattle.text.proofs.Decimals.{decimal-some, decimal-few, decimal-digits, decimal-worth}
-use Rattle.theorems.specs.Spelled.{Digits, fields, at, Legal, command, IsSendir}
+use Rattle.text.proofs.Decimals.{decimal-spells}
+use Rattle.theorems.specs.Spelled.{fields, at, Legal, command, IsSendir}
 use Rattle.theorems.specs.Spelled as spelled
 use Rattle.theorems.proofs.Spelled.{sendir-spelled}
 use Rattle.words.specs.declared.Pair.{Pair}
@@ -36,7 +36,7 @@ use Rattle.writer.specs.Sendir.{sendirHead, sendirLine, Outcome, refused
 use Rattle.writer.specs.RoundTrip.{ReadsBack}
 use Rattle.writer.proofs.Limits.{AddressIn, FieldsIn, address-in, fields-in, small, given-accepted}
 use Rattle.writer.proofs.ReadBack.{code-means, code-back}
-use Rattle.writer.proofs.Heads.{fieldsIn, line-is, head-back}
+use Rattle.writer.proofs.Heads.{capped-twice, fieldsIn, line-is, head-back}
 use Rattle.writer.proofs.Bytes.{listed-all, text-all, head-few, code-few}
 use Rattle.writer.proofs.Forms.{items-low}
 
@@ -145,9 +145,6 @@ pub round-trip : {before : List ℕ} {form : Form} {c : Command} {counts after :
 round-trip {before} {form} {c} {counts} w = from-buffer (ReadsBack c (pairsOf counts)) (line-back (length before) form c counts) w
 
 -- ---- and the table does: it is a sendir without a fault, with these fields and pairs
-spells : (n : ℕ) → n < 1000000 → Digits (decimal n) n
-spells n h = record { some = decimal-some n; few = decimal-few n h; digits = decimal-digits n; value = decimal-worth n h }
-
 spelled-line : (form : Form) (c : Command) (ps : List Pair)
     → sendirLine form c ps
     ≡ fields
@@ -158,7 +155,7 @@ spelled-line form c ps = simp append-assoc
 
 capped-again : (repeat : ℕ) → spelled.capped (capped repeat) ≡ spelled.capped repeat
 unfolding capped
-capped-again repeat = by-test (ltb 20 repeat) (λ e. rw e) (λ e. rw (e, e))
+capped-again repeat = capped-twice repeat
 
 line-meant : (room : ℕ) (form : Form) (c : Command) (counts text : List ℕ) → outcome room form c counts ≡ line text
     → IsSendir text (c .port) (command (c .fields .id) (c .fields .freq) (c .fields .repeat) (c .fields .offset)) (pairsOf counts)
@@ -179,12 +176,12 @@ line-meant room form c counts text e =
       mostOffset = t .fields .offset-high;
       inside = t .inside;
     } in
-    let one : Digits (bytes "1") 1 = record { some = omega arith; few = omega arith; digits = refl; value = refl } in
+    let one : Spells (bytes "1") 1 = record { some = omega arith; few = omega arith; decimal = refl; value = refl } in
     rw (is, ← capped-again (f .repeat))
-    (sendir-spelled (spells (f .id) (omega (arith, t .fields .id-high))) (spells (f .freq) (omega (arith, t .fields .freq-high)))
-    (spells (capped (f .repeat)) (omega arith)) (spells (f .offset) (omega (arith, t .fields .offset-high))) legal
+    (sendir-spelled (decimal-spells (f .id) (omega (arith, t .fields .id-high))) (decimal-spells (f .freq) (omega (arith, t .fields .freq-high)))
+    (decimal-spells (capped (f .repeat)) (omega arith)) (decimal-spells (f .offset) (omega (arith, t .fields .offset-high))) legal
     (codeText form ps) one
-    (spells (c .port) (omega (arith, t .address .port-high))) (t .address .port-low) (t .address .port-high)
+    (decimal-spells (c .port) (omega (arith, t .address .port-high))) (t .address .port-low) (t .address .port-high)
     (means-accepted (f .freq) (codeText form ps) ps (code-means form (t .given)))
     (subst (λ (l : List ℕ). length l ≤ 4096) is (few room form c counts text e)))
 

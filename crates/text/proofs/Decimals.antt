@@ -117,7 +117,7 @@ pub decimal-worth : (n : ℕ) → n < 1000000 → worth 0 (decimal n) ≡ n
 decimal-worth n h = decimal-value n (omega arith)
 
 pub decimal-spells : (n : ℕ) → n < 1000000 → Spells (decimal n) n
-decimal-spells n h = record { some = decimal-some n; few = decimal-few n h; decimal = decimal-digits n; value = decimal-worth n h }
+decimal-spells n h = record { some = decimal-some n; few = omega (arith, decimal-few n h); decimal = decimal-digits n; value = decimal-worth n h }
 
 -- ---- no zero in front
 some-digit : (k n : ℕ) → 1 ≤ length (decimalIn (suc k) n)

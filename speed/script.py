@@ -230,14 +230,17 @@ class Lab:
         return self.other()
 
 
+def script(lines, seed):
+    """So many lines of mixed traffic."""
+    lab = Lab(seed)
+    return b"".join(lab.line().encode("latin-1") + b"\n" for _ in range(lines))
+
+
 def main():
     if len(sys.argv) not in (2, 3):
         sys.exit("usage: script.py LINES [SEED]")
-    lab = Lab(int(sys.argv[2]) if len(sys.argv) == 3 else 1)
-    out = sys.stdout.buffer
-    for _ in range(int(sys.argv[1])):
-        out.write(lab.line().encode("latin-1") + b"\n")
-    out.flush()
+    sys.stdout.buffer.write(script(int(sys.argv[1]), int(sys.argv[2]) if len(sys.argv) == 3 else 1))
 
 
-main()
+if __name__ == "__main__":
+    main()

@@ -1,4 +1,4 @@
-//! scripts SEED LINES: prints one script for the bench, the same for the same seed. To meet exact moments the generator runs the second hub
+//! scripts SEED LINES: prints one script for the bench, the same for the same seed. To meet exact moments the generator runs the oracle
 //! beside what it writes and asks it where its transmissions are; it need not be independent of it.
 
 #[path = "hub.rs"]

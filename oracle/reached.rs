@@ -1,4 +1,4 @@
-//! What a script reaches, seen in the second hub's answers and histories while it runs the script: error numbers, replies, refusals, and the
+//! What a script reaches, seen in the oracle's answers and histories while it runs the script: error numbers, replies, refusals, and the
 //! moments and texts that the generator aims at. A comparison that did not reach all of them shows less than it says.
 
 use crate::scripts::hub::{read_code, script_lines, step, Ending, Hub, Pair, Said, Sending};
@@ -306,7 +306,7 @@ impl Tally {
         Tally { counts: vec![0; aims.len()], bytes: [0; 256], lines: 0 }
     }
 
-    /// Runs a script through the second hub and counts.
+    /// Runs a script through the oracle and counts.
     pub fn watch(&mut self, aims: &[Aim], script: &[u8]) {
         let mut hub = Hub::fresh();
         script_lines(script).for_each(|line| self.watch_line(aims, &mut hub, line));

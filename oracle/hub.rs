@@ -1,4 +1,4 @@
-//! A second hub, to be compared with the bench byte for byte. It was written from document 01 and its settled readings alone, by hands that had
+//! The oracle: a second hub, to be compared with the bench byte for byte. It was written from document 01 and its settled readings alone, by hands that had
 //! not seen the proved code, and in another style: moments are absolute, fractions exact, waveforms written out copy by copy, and nothing that
 //! happened is forgotten; the present state is read off the history. Words in quotation marks are document 01's.
 //! The program reads the bench's script on standard input and prints the bench's output.

@@ -1,11 +1,12 @@
 /*
- * A plain hub in C11: the peer for benchmarks and differential tests.
- * Written from document 01 and the readings only.
+ * A plain hub in C11, written from document 01 and the readings only: what the
+ * bench's speed is measured against, and compared with on the same lines.
  *
  * Standard input: the bench's lines.  Standard output: the bench's output.
  * Time is exact: a tick is a millionth of a carrier period, so that one
  * microsecond is freq ticks.  Nothing is rounded but the moment of completion.
  */
+#include <stddef.h>
 #include <stdint.h>
 #include <string.h>
 #include <stdlib.h>
@@ -39,6 +40,7 @@ enum { UNREAD = -1, NOBODY = -1 };
 struct command {
     u32 id, freq, repeat, offset;    /* repeat as capped */
     u32 n;                           /* pairs */
+    u32 periods;                     /* of all pairs together */
     u32 pair[PAIRS];                 /* on << 16 | off */
 };
 
@@ -161,6 +163,11 @@ static void put_stop(u32 c, u32 p)
 static inline int is_digit(u8 b) { return (u8)(b - '0') <= 9; }
 static inline int is_letter(u8 b) { return (u8)(b - 'A') <= 25; }
 
+/*
+ * A line is s..e, and the byte at e is its LF: so what looks at a byte need
+ * not look for the end first.
+ */
+
 /* The end of the field that starts at s: its comma or the line's end. */
 static inline const u8 *field_end(const u8 *s, const u8 *e)
 {
@@ -169,105 +176,136 @@ static inline const u8 *field_end(const u8 *s, const u8 *e)
     return s;
 }
 
-/* A whole field as a number; NONE if empty, not digits or over 6 digits. */
-static u32 field_number(const u8 *s, const u8 *e)
+/* The digits at *s as a number; NONE if there are none or over 6. */
+static inline u32 digits(const u8 **s)
 {
+    const u8 *t = *s;
     u32 v = 0;
-    if (s == e || e - s > NUMBER_DIGITS)
-        return NONE;
-    for (; s < e; s++) {
-        if (!is_digit(*s))
-            return NONE;
-        v = v * 10 + (u32)(*s - '0');
-    }
-    return v;
+    while (is_digit(*t))
+        v = v * 10 + (u32)(*t++ - '0');
+    size_t n = (size_t)(t - *s);
+    *s = t;
+    return n == 0 || n > NUMBER_DIGITS ? NONE : v;
 }
+
+/* The field behind the comma at *s, whole, as a number; else NONE. */
+static u32 next_number(const u8 **s, const u8 *e)
+{
+    if (*s < e)
+        ++*s;
+    u32 v = digits(s);
+    return *s == e || **s == ',' ? v : NONE;
+}
+
+#define ONES 0x0101010101010101u     /* a 1 in each byte of a word */
+
+/* Of eight bytes, the lowest that is not 32 to 126 has its top bit set here; none has if all are. */
+static inline u64 out_of_range(const u8 *s)
+{
+    u64 w;
+    memcpy(&w, s, 8);
+    return w | (w - 32 * ONES) | (w + ONES);
+}
+
+/* Whether all bytes are 32 to 126; eight at a time, the last eight again. */
+static int printable(const u8 *s, size_t n)
+{
+    u64 bad = 0;
+    if (n < 8) {
+        for (size_t i = 0; i < n; i++)
+            if ((u8)(s[i] - 32) > 94)
+                return 0;
+        return 1;
+    }
+    for (size_t i = 0; i < n - 8; i += 8)
+        bad |= out_of_range(s + i);
+    bad |= out_of_range(s + n - 8);
+    return (bad & 128 * ONES) == 0;
+}
+
+/* The letters of the first pairs: each pair that has none yet gets the next. */
+struct letters {
+    u32 n;                           /* letters given */
+    u32 seen;                        /* pairs looked at */
+    u32 pair[LETTERS];
+};
+
+static void learn(struct letters *l, const u32 *pair, u32 n)
+{
+    for (; l->seen < n && l->n < LETTERS; l->seen++) {
+        u32 i = 0;
+        while (i < l->n && l->pair[i] != pair[l->seen])
+            i++;
+        if (i == l->n)
+            l->pair[l->n++] = pair[l->seen];
+    }
+    l->seen = n;
+}
+
+static inline u32 periods_of(u32 pair) { return (pair >> 16) + (pair & 0xFFFF); }
 
 /*
  * Reads the code s..e into scratch (freq is there already).
  * Answers 0 or the number of the first fault from the left.
+ * It stands apart from its caller so that its loops have the registers.
  */
-static u32 read_code(const u8 *s, const u8 *e)
+static __attribute__((noinline)) u32 read_code(const u8 *s, const u8 *e)
 {
     const u32 freq = scratch.freq;
     u32 least = (freq + 12499) / 12500;
-    u32 letter[LETTERS];
-    u32 letters = 0, n = 0;
     u32 *const pair = scratch.pair;
+    u32 n = 0, periods = 0;
+    struct letters l = { 0, 0, { 0 } };
 
     if (least < 4)
         least = 4;
-    if (s == e)
-        return 9;
     if (is_letter(*s))
         return 22;                    /* no pair has a letter yet */
 
     for (;;) {
         /* A spelled pair must begin here, not at a letter. */
-        if (s == e || !is_digit(*s))
+        if (!is_digit(*s))
             return 9;
         if (n == PAIRS)
             return 20;
-
-        const u8 *b = s;
-        u32 on = 0, off = 0;
-        do {
-            if (s - b < NUMBER_DIGITS)
-                on = on * 10 + (u32)(*s - '0');
-            s++;
-        } while (s < e && is_digit(*s));
-        if (s - b > NUMBER_DIGITS || on < least || on > 50000)
+        u32 on = digits(&s);
+        if (on < least || on > 50000)
             return 9;
-        if (s == e)
-            return 10;
         if (*s != ',')
-            return is_letter(*s) ? 21 : 9;
+            return s == e ? 10 : is_letter(*s) ? 21 : 9;
         s++;
-        if (s == e)
-            return 9;
         if (!is_digit(*s))
             return is_letter(*s) ? 21 : 9;
-        b = s;
-        do {
-            if (s - b < NUMBER_DIGITS)
-                off = off * 10 + (u32)(*s - '0');
-            s++;
-        } while (s < e && is_digit(*s));
-        if (s - b > NUMBER_DIGITS || off < least || off > 50000)
+        u32 off = digits(&s);
+        if (off < least || off > 50000)
             return 9;
+        pair[n++] = on << 16 | off;
+        periods += on + off;
 
-        u32 one = on << 16 | off;
-        pair[n++] = one;
-        if (letters < LETTERS) {
-            u32 i = 0;
-            while (i < letters && letter[i] != one)
-                i++;
-            if (i == letters)
-                letter[letters++] = one;
-        }
-
-        if (s == e)
-            break;
         if (*s == ',') {
             s++;                      /* a spelled pair must follow */
             continue;
         }
+        if (s == e)
+            break;
         if (!is_letter(*s))
             return 9;
-        do {
+        learn(&l, pair, n);
+        for (u32 i; (i = (u32)(*s - 'A')) < l.n; s++) {
             if (n == PAIRS)
                 return 20;
-            u32 i = (u32)(*s - 'A');
-            if (i >= letters)
-                return 22;
-            pair[n++] = letter[i];
-            s++;
-        } while (s < e && is_letter(*s));
+            pair[n++] = l.pair[i];
+            periods += periods_of(l.pair[i]);
+        }
+        if (is_letter(*s))
+            return n == PAIRS ? 20 : 22;
+        l.seen = n;
         if (s == e)
             break;
         /* a digit begins the next spelled pair, all else is 009 */
     }
     scratch.n = n;
+    scratch.periods = periods;
     return 0;
 }
 
@@ -276,23 +314,16 @@ static u32 read_code(const u8 *s, const u8 *e)
 static void start(struct connector *k, u32 c)
 {
     u32 before = (scratch.offset - 1) / 2;
-    u64 lead = 0, tail = 0;
+    u64 lead = 0;
     for (u32 i = 0; i < before; i++)
-        lead += (scratch.pair[i] >> 16) + (scratch.pair[i] & 0xFFFF);
-    for (u32 i = before; i < scratch.n; i++)
-        tail += (scratch.pair[i] >> 16) + (scratch.pair[i] & 0xFFFF);
+        lead += periods_of(scratch.pair[i]);
     k->busy = 1;
     k->owner = (int)c;
     k->lead = lead;
-    k->tail = tail;
+    k->tail = scratch.periods - lead;
     k->at = 0;
     k->copies = scratch.repeat;
-    k->cmd.id = scratch.id;
-    k->cmd.freq = scratch.freq;
-    k->cmd.repeat = scratch.repeat;
-    k->cmd.offset = scratch.offset;
-    k->cmd.n = scratch.n;
-    memcpy(k->cmd.pair, scratch.pair, scratch.n * sizeof scratch.pair[0]);
+    memcpy(&k->cmd, &scratch, offsetof(struct command, pair) + scratch.n * sizeof scratch.pair[0]);
 }
 
 static int same_command(const struct command *a, const struct command *b)
@@ -319,26 +350,23 @@ static void do_sendir(u32 c, u32 p, const u8 *s, const u8 *e)
 {
     struct connector *k = &conn[p];
     u32 fault = 0, v;
-    const u8 *f;
 
     if (k->mode == SENSOR) {
         put_error(c, 1, p, 13);
         return;
     }
-#define NEXT() do { if (s < e) s++; f = s; s = field_end(s, e); v = field_number(f, s); } while (0)
-    NEXT();
+    v = next_number(&s, e);
     if (v > 65535) { fault = 4; goto refuse; }
     scratch.id = v;
-    NEXT();
+    v = next_number(&s, e);
     if (v < 15000 || v > 500000) { fault = 5; goto refuse; }
     scratch.freq = v;
-    NEXT();
+    v = next_number(&s, e);
     if (v < 1 || v > 999999) { fault = 6; goto refuse; }
     scratch.repeat = v > 20 ? 20 : v;
-    NEXT();
+    v = next_number(&s, e);
     if (v < 1 || v > 383 || v % 2 == 0) { fault = 7; goto refuse; }
     scratch.offset = v;
-#undef NEXT
     if (s < e)
         s++;
     fault = read_code(s, e);
@@ -397,11 +425,7 @@ static void do_set_ir(u32 c, u32 p, const u8 *s, const u8 *e)
 
 static void do_setstate(u32 c, u32 p, const u8 *s, const u8 *e)
 {
-    if (s < e)
-        s++;
-    const u8 *f = s;
-    s = field_end(s, e);
-    u32 v = field_number(f, s);
+    u32 v = next_number(&s, e);
     if (v > 1)
         put_error(c, 2, p, 23);
     else if (s < e)
@@ -465,7 +489,7 @@ static enum name read_name(const u8 *s, size_t n)
     return UNKNOWN;
 }
 
-/* One request line of connection c (0 to 7), without its end. */
+/* One request line of connection c (0 to 7), without its LF, which stands behind it. */
 static void request(u32 c, const u8 *s, size_t n)
 {
     const u8 *e = s + n, *f;
@@ -474,13 +498,10 @@ static void request(u32 c, const u8 *s, size_t n)
         put_error(c, 0, 0, 15);
         return;
     }
-    unsigned bad = 0;
-    for (size_t i = 0; i < n; i++)
-        bad |= (u8)(s[i] - 32) > 94;
     f = s;
     s = field_end(s, e);
     enum name name = read_name(f, (size_t)(s - f));
-    if (bad || name == UNKNOWN) {
+    if (name == UNKNOWN || !printable(f, n)) {
         put_error(c, 0, 0, 1);
         return;
     }
@@ -507,23 +528,18 @@ static void request(u32 c, const u8 *s, size_t n)
     /* the address: digits, colon, digits, and then a comma or the end */
     if (s < e)
         s++;
-    const u8 *m0 = s;
-    while (s < e && is_digit(*s))
-        s++;
-    const u8 *m1 = s;
-    if (m1 == m0 || s == e || *s != ':') {
+    f = s;
+    u32 m = digits(&s);
+    if (s == f || *s != ':') {
         put_error(c, 0, 0, 17);
         return;
     }
-    s++;
-    const u8 *p0 = s;
-    while (s < e && is_digit(*s))
-        s++;
-    if (s == p0 || (s < e && *s != ',')) {
+    f = ++s;
+    u32 p = digits(&s);
+    if (s == f || (s < e && *s != ',')) {
         put_error(c, 0, 0, 17);
         return;
     }
-    u32 m = field_number(m0, m1), p = field_number(p0, s);
     if (name == GETSTATE ? (m != 1 && m != 2) : m != (name == SETSTATE ? 2u : 1u)) {
         put_error(c, 0, 0, 2);
         return;
@@ -635,7 +651,7 @@ static inline int bench_space(const u8 **s, const u8 *e)
     return 1;
 }
 
-/* One bench line without its LF. */
+/* One bench line without its LF, which stands behind it. */
 static void bench_line(const u8 *s, size_t n)
 {
     const u8 *e = s + n;
@@ -686,7 +702,7 @@ other:
 }
 
 static u8 block[BLOCK];
-static u8 kept[KEEP];               /* the start of a line begun in an earlier block */
+static u8 kept[KEEP + 1];           /* the start of a line begun in an earlier block, and an LF */
 
 int main(void)
 {
@@ -723,6 +739,7 @@ int main(void)
                 kept_n += n;
                 partial = 1;
                 if (lf) {
+                    kept[kept_n] = '\n';
                     bench_line(kept, kept_n);
                     kept_n = 0;
                     partial = 0;

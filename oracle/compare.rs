@@ -1,4 +1,4 @@
-//! compare check FIRST COUNT LINES HUB BENCH..: runs the scripts of COUNT seeds from FIRST on through two programs, the second hub and the bench
+//! compare check FIRST COUNT LINES HUB BENCH..: runs the scripts of COUNT seeds from FIRST on through two programs, the oracle and the bench
 //! (given by the words of its command), and compares what they print byte for byte. It prints a table of what the scripts reached, and fails
 //! where something was not reached or the two differ; then it prints the shortest script it finds that still shows the difference.
 //! compare notice FIRST COUNT LINES HUB BENCH..: prints the first seed whose script shows a difference, and fails if none does.
@@ -110,7 +110,7 @@ fn report(programs: &Programs, seed: u64, script: &[u8]) {
     let short = programs.shortest(script);
     println!("compare: seed {seed} shows a difference. The shortest script found that shows it:");
     print!("{}", readable(&short));
-    println!("  the second hub says:\n{}", readable(&output(&programs.hub, &short)).trim_end());
+    println!("  the oracle says:\n{}", readable(&output(&programs.hub, &short)).trim_end());
     println!("  the bench says:\n{}", readable(&output(&programs.bench, &short)).trim_end());
 }
 

@@ -5,3 +5,5 @@ pub mod Joining
 pub mod Cutting
 pub mod Put
 pub mod Storing
+pub mod Numbers
+pub mod Slots

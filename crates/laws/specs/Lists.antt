@@ -22,6 +22,21 @@ same [] (b ∷ s) = false
 same (a ∷ w) [] = false
 same (a ∷ w) (b ∷ s) = eqb b a && same w s
 
+-- so many numbers, from one on
+abbrev pub upFrom : ℕ → ℕ → List ℕ
+upFrom from zero = []
+upFrom from (suc n) = from ∷ upFrom (suc from) n
+
+-- what each of some numbers gives, one after the other
+abbrev pub gathered : {A : Type 0} → (ℕ → List A) → List ℕ → List A
+gathered f [] = []
+gathered f (x ∷ xs) = f x ++ gathered f xs
+
+-- k numbers of a list from a place on; those that it has not are 0
+abbrev pub numbers : List ℕ → ℕ → ℕ → List ℕ
+numbers l at zero = []
+numbers l at (suc k) = getD l at 0 ∷ numbers l (suc at) k
+
 -- a list so many times, one after the other
 abbrev pub times : ℕ → List ℕ → List ℕ
 times zero l = []

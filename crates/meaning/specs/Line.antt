@@ -56,40 +56,41 @@ lettered ps = take 15 (distinct ps)
 
 -- how far the text is read: where a pair may begin, at first or behind a letter; in an on count, with its digits; where the off count is due;
 -- in the off count; behind the comma that follows a spelled pair
-pub data Place : Type 0 where
-  opening : Place
-  on : List ℕ → Place
-  due : ℕ → Place
-  off : ℕ → List ℕ → Place
-  spelling : Place
+pub data Reach : Type 0 where
+  opening : Reach
+  on : List ℕ → Reach
+  offDue : ℕ → Reach
+  off : ℕ → List ℕ → Reach
+  spelling : Reach
 
-pub data Step : Type 0 where
-  stop : ℕ → Step
-  go : List Pair → Place → Step
+-- what the next byte gives: a fault, or the pairs read by then and how far the text is read
+pub data Stride : Type 0 where
+  stop : ℕ → Stride
+  go : List Pair → Reach → Stride
 
 -- 020 "the 261st pair is begun by a digit, or by a letter ..., ahead of any judging of that letter"; 022 "a letter without a pair"
-abbrev pub lettering : List Pair → ℕ → Step
+abbrev pub lettering : List Pair → ℕ → Stride
 lettering ps b = first ((leb 260 (length ps) ⇒ stop 20) ∷ (not (ltb (b - 65) (length (lettered ps))) ⇒ stop 22) ∷ [])
     (go (ps ++ (getD (lettered ps) (b - 65) (pair 0 0) ∷ [])) opening)
 
-abbrev pub beginning : List Pair → ℕ → Step
+abbrev pub beginning : List Pair → ℕ → Stride
 beginning ps b = first ((not (isDigit b) ⇒ stop 9) ∷ (leb 260 (length ps) ⇒ stop 20) ∷ []) (go ps (on (b ∷ [])))
 
 -- the next byte: 021 "a letter where an off count is due or where an on count has just ended", 009 "all else"
-abbrev pub step : ℕ → List Pair → Place → ℕ → Step
-step freq ps opening b = cond (isLetter b) (lettering ps b) (beginning ps b)
-step freq ps (on ds) b = first
+abbrev pub stride : ℕ → List Pair → Reach → ℕ → Stride
+stride freq ps opening b = cond (isLetter b) (lettering ps b) (beginning ps b)
+stride freq ps (on ds) b = first
     ((isDigit b ⇒ go ps (on (ds ++ (b ∷ []))))
     ∷ (not (isCount freq ds) ⇒ stop 9)
     ∷ (isLetter b ⇒ stop 21)
-    ∷ (eqb b 44 ⇒ go ps (due (number ds)))
+    ∷ (eqb b 44 ⇒ go ps (offDue (number ds)))
     ∷ []) (stop 9)
-step freq ps (due n) b = first ((isLetter b ⇒ stop 21) ∷ (isDigit b ⇒ go ps (off n (b ∷ []))) ∷ []) (stop 9)
-step freq ps (off n ds) b =
+stride freq ps (offDue n) b = first ((isLetter b ⇒ stop 21) ∷ (isDigit b ⇒ go ps (off n (b ∷ []))) ∷ []) (stop 9)
+stride freq ps (off n ds) b =
     let qs = ps ++ (pair n (number ds) ∷ []) in
     first ((isDigit b ⇒ go ps (off n (ds ++ (b ∷ [])))) ∷ (not (isCount freq ds) ⇒ stop 9) ∷ (isLetter b ⇒ lettering qs b) ∷ (eqb b 44 ⇒ go qs spelling) ∷ [])
     (stop 9)
-step freq ps spelling b = beginning ps b
+stride freq ps spelling b = beginning ps b
 
 -- a code that was read: its fault, if it has one, and its pairs, if not
 pub record Reading : Type 0 where
@@ -103,20 +104,20 @@ abbrev pub sound : List Pair → Reading
 sound ps = record { fault = none; pairs = ps }
 
 -- the line ends: 010 "just after an on count", 009 "such as an empty code or number"
-abbrev pub ended : ℕ → List Pair → Place → Reading
+abbrev pub ended : ℕ → List Pair → Reach → Reading
 ended freq ps opening = cond (eqb (length ps) 0) (faulty 9) (sound ps)
 ended freq ps (on ds) = cond (isCount freq ds) (faulty 10) (faulty 9)
-ended freq ps (due n) = faulty 9
+ended freq ps (offDue n) = faulty 9
 ended freq ps (off n ds) = cond (isCount freq ds) (sound (ps ++ (pair n (number ds) ∷ []))) (faulty 9)
 ended freq ps spelling = faulty 9
 
-abbrev pub after : Step → (List Pair → Place → Reading) → Reading
+abbrev pub after : Stride → (List Pair → Reach → Reading) → Reading
 after (stop n) reads = faulty n
-after (go ps place) reads = reads ps place
+after (go ps reach) reads = reads ps reach
 
-abbrev pub reads : ℕ → List Pair → Place → List ℕ → Reading
-reads freq ps place [] = ended freq ps place
-reads freq ps place (b ∷ s) = after (step freq ps place b) (λ qs q. reads freq qs q s)
+abbrev pub reads : ℕ → List Pair → Reach → List ℕ → Reading
+reads freq ps reach [] = ended freq ps reach
+reads freq ps reach (b ∷ s) = after (stride freq ps reach b) (λ qs q. reads freq qs q s)
 
 unfoldable pub codeIn : ℕ → List ℕ → Reading
 codeIn freq text = reads freq [] opening text

@@ -7,13 +7,15 @@ use lib.Dec.{ltb, eqb}
 use lib.ListN.{length}
 use Rattle.laws.specs.Bytes.{bytes}
 use Rattle.laws.specs.Checks.{Check, _⇒_, first, between, holds, isSome}
-use Rattle.laws.specs.Lists.{all, same, cut, part, behind}
+use Rattle.laws.specs.Lists.{all, same, cut, part, behind, gathered}
+use Rattle.words.specs.Places.{connectors, portsOf, ports}
 use Rattle.words.specs.Decimal.{decimal, threeDigits}
 use Rattle.words.specs.declared.Pair.{Pair}
 use Rattle.words.specs.declared.Fields.{Fields}
 use Rattle.meaning.specs.Line as text
 use Rattle.meaning.specs.Line.{is, number, within, isAddress, addressed, codeIn}
-use Rattle.meaning.specs.Time.{Transmission, countsOf, complete, finish, carrier}
+use Rattle.words.specs.Pairs.{countsOf}
+use Rattle.meaning.specs.Time.{Transmission, complete, finish, carrier}
 use Rattle.meaning.specs.Log.{Deed, passed, setting, switched, event, changed, felt, started, renewed, halted, left, now, modeOf, contactOf, relayOf, ownerOf, isOwner, onAir}
 
 -- `completeir,1:p,id` at a moment from the wait's start, to its owner
@@ -88,7 +90,7 @@ module _ (log : List Deed) (connection : ℕ) (line : List ℕ) where
   address least most checks =
       (not (isAddress (field 1)) ⇒ no 17)
       ∷ (not (within least most (part 58 0 (field 1))) ⇒ no 2)
-      ∷ (not (within 1 3 (part 58 1 (field 1))) ⇒ no 3)
+      ∷ (not (within 1 (portsOf m) (part 58 1 (field 1))) ⇒ no 3)
       ∷ checks
 
   -- 017 "anything after a complete request", which has so many fields
@@ -192,7 +194,7 @@ ordered [] = []
 ordered (x ∷ l) = inserted x (ordered l)
 
 abbrev pub completions : ℕ → List Deed → List Completion
-completions n log = ordered (due n log 1 ++ due n log 2 ++ due n log 3)
+completions n log = ordered (gathered (due n log) ports)
 
 -- "Beside request lines there are three calls: a contact reading (connector, 0 or 1), a closed connection, and a wait of some
 -- microseconds." A line comes with its connection and the size of the lent reply buffer, an overlong one as a mark.
@@ -213,7 +215,7 @@ rowOf log (line connection room s) =
     row (heard connection room ((ltb 4096 (length s) ⇒ no 15) ∷ (not (all (between 32 126) s) ⇒ no 1) ∷ asked .checks)) (asked .otherwise)
 rowOf log (overlong connection room) = row (heard connection room []) (no 15)
 rowOf log (reading p value) =
-    row ((not (between 1 3 p && is "SENSOR" (modeOf p log) && between 0 1 value) ⇒ refusal 104) ∷ [])
+    row ((not (between 1 connectors p && is "SENSOR" (modeOf p log) && between 0 1 value) ⇒ refusal 104) ∷ [])
     (does (taken []) (setting p (felt value) ∷ []))
 rowOf log (closing connection) = row ((ltb 7 connection ⇒ refusal 102) ∷ []) (does (taken []) (event (left connection) ∷ []))
 rowOf log (waiting n) = row ((ltb 1000000000 n ⇒ refusal 103) ∷ []) (does (taken (completions n log)) (passed n ∷ []))
@@ -231,7 +233,7 @@ logOf (call ∷ h) = logged (logOf h) call
 
 -- "for each connector whether its carrier is on now, off where nothing is transmitted"
 abbrev pub carriers : List Deed → List Bool
-carriers log = map (λ p. holds (λ s. carrier s (now log)) (onAir p log)) (1 ∷ 2 ∷ 3 ∷ [])
+carriers log = map (λ p. holds (λ s. carrier s (now log)) (onAir p log)) ports
 
 -- what a call is told, and each connector's carrier after it; so for a list of calls, the first of them first
 pub record Said : Type 0 where

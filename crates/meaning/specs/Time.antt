@@ -7,12 +7,9 @@ use lib.ListN.{drop}
 use Rattle.laws.specs.Lists.{times}
 use Rattle.words.specs.declared.Pair.{Pair}
 use Rattle.words.specs.declared.Fields.{Fields}
+use Rattle.words.specs.Pairs.{countsOf}
 
--- the on and off counts of pairs, in turn, and what counts last, in carrier periods
-abbrev pub countsOf : List Pair → List ℕ
-countsOf [] = []
-countsOf (p ∷ ps) = p .on ∷ p .off ∷ countsOf ps
-
+-- what counts last, in carrier periods
 abbrev pub lasts : List ℕ → ℕ
 lasts [] = 0
 lasts (x ∷ xs) = x + lasts xs

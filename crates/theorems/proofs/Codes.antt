@@ -15,7 +15,7 @@ use Rattle.laws.proofs.Lists.{all-append, all-at}
 use Rattle.words.specs.Digits.{isDigit}
 use Rattle.words.specs.Pairs.{pair, samePair, without, distinct}
 use Rattle.words.specs.declared.Pair.{Pair}
-use Rattle.meaning.specs.Line.{isNumber, number, within, isCount, isLetter, lettered, Place, opening, on, due, off, spelling, Step, stop, go, lettering, beginning, step, Reading, ended, after, reads, codeIn}
+use Rattle.meaning.specs.Line.{isNumber, number, within, isCount, isLetter, lettered, Reach, opening, on, offDue, off, spelling, Stride, stop, go, lettering, beginning, stride, Reading, ended, after, reads, codeIn}
 use Rattle.theorems.specs.Deeds.{countFits, pairFits}
 
 -- ---- what is true of every pair is true of the lettered ones
@@ -43,16 +43,16 @@ module _ (freq : ℕ) where
     pub fit : all (pairFits freq) ps ≡ true
 
   -- what is known at a place of the text: where a pair has begun there is room for it, and a count that was read fits
-  abbrev Fine : List Pair → Place → Type 0
+  abbrev Fine : List Pair → Reach → Type 0
   Fine ps opening = Within ps
   Fine ps (on ds) = Within ps × (length ps < 260)
-  Fine ps (due n) = Within ps × (length ps < 260) × (countFits freq n ≡ true)
+  Fine ps (offDue n) = Within ps × (length ps < 260) × (countFits freq n ≡ true)
   Fine ps (off n ds) = Within ps × (length ps < 260) × (countFits freq n ≡ true)
   Fine ps spelling = Within ps
 
-  abbrev FineStep : Step → Type 0
-  FineStep (stop n) = Unit
-  FineStep (go ps place) = Fine ps place
+  abbrev FineStride : Stride → Type 0
+  FineStride (stop n) = Unit
+  FineStride (go ps reach) = Fine ps reach
 
   count-fits : (ds : List ℕ) → not (isCount freq ds) ≡ false → countFits freq (number ds) ≡ true
   unfolding isCount within
@@ -69,36 +69,36 @@ module _ (freq : ℕ) where
         fit = all-append (pairFits freq) ps (x ∷ []) (w .fit) (and-true (pairFits freq x) true e refl);
       }
 
-  lettering-fine : (ps : List Pair) (b : ℕ) → Within ps → FineStep (lettering ps b)
+  lettering-fine : (ps : List Pair) (b : ℕ) → Within ps → FineStride (lettering ps b)
   lettering-fine ps b w =
-      through FineStep ((leb 260 (length ps) ⇒ stop 20) ∷ (not (ltb (b - 65) (length (lettered ps))) ⇒ stop 22) ∷ [])
+      through FineStride ((leb 260 (length ps) ⇒ stop 20) ∷ (not (ltb (b - 65) (length (lettered ps))) ⇒ stop 22) ∷ [])
       (go (ps ++ (getD (lettered ps) (b - 65) (pair 0 0) ∷ [])) opening)
       (past tt (λ room. past tt (λ known.
       one-more ps (getD (lettered ps) (b - 65) (pair 0 0)) w (leb-false 260 (length ps) room)
       (all-at (pairFits freq) (lettered ps) (b - 65) (pair 0 0)
       (all-take (pairFits freq) 15 (distinct ps) (all-distinct (pairFits freq) ps (w .fit))) (ltb-true _ _ (not-false _ known))))))
 
-  beginning-fine : (ps : List Pair) (b : ℕ) → Within ps → FineStep (beginning ps b)
+  beginning-fine : (ps : List Pair) (b : ℕ) → Within ps → FineStride (beginning ps b)
   beginning-fine ps b w =
-      through FineStep ((not (isDigit b) ⇒ stop 9) ∷ (leb 260 (length ps) ⇒ stop 20) ∷ []) (go ps (on (b ∷ [])))
+      through FineStride ((not (isDigit b) ⇒ stop 9) ∷ (leb 260 (length ps) ⇒ stop 20) ∷ []) (go ps (on (b ∷ [])))
       (past tt (λ _. past tt (λ room. (w, leb-false 260 (length ps) room))))
 
-  step-fine : (ps : List Pair) (place : Place) (b : ℕ) → Fine ps place → FineStep (step freq ps place b)
-  step-fine ps opening b w =
-      cond-case FineStep (isLetter b) (lettering ps b) (beginning ps b) (λ _. lettering-fine ps b w) (λ _. beginning-fine ps b w)
-  step-fine ps (on ds) b w =
-      through FineStep
+  stride-fine : (ps : List Pair) (reach : Reach) (b : ℕ) → Fine ps reach → FineStride (stride freq ps reach b)
+  stride-fine ps opening b w =
+      cond-case FineStride (isLetter b) (lettering ps b) (beginning ps b) (λ _. lettering-fine ps b w) (λ _. beginning-fine ps b w)
+  stride-fine ps (on ds) b w =
+      through FineStride
       ((isDigit b ⇒ go ps (on (ds ++ (b ∷ []))))
       ∷ (not (isCount freq ds) ⇒ stop 9)
       ∷ (isLetter b ⇒ stop 21)
-      ∷ (eqb b 44 ⇒ go ps (due (number ds)))
+      ∷ (eqb b 44 ⇒ go ps (offDue (number ds)))
       ∷ []) (stop 9)
       (past w (λ _. past tt (λ count. past tt (λ _. past (w .0, w .1, count-fits ds count) (λ _. tt)))))
-  step-fine ps (due n) b w =
-      through FineStep ((isLetter b ⇒ stop 21) ∷ (isDigit b ⇒ go ps (off n (b ∷ []))) ∷ []) (stop 9) (past tt (λ _. past w (λ _. tt)))
-  step-fine ps (off n ds) b w =
+  stride-fine ps (offDue n) b w =
+      through FineStride ((isLetter b ⇒ stop 21) ∷ (isDigit b ⇒ go ps (off n (b ∷ []))) ∷ []) (stop 9) (past tt (λ _. past w (λ _. tt)))
+  stride-fine ps (off n ds) b w =
       let qs = ps ++ (pair n (number ds) ∷ []) in
-      through FineStep
+      through FineStride
       ((isDigit b ⇒ go ps (off n (ds ++ (b ∷ []))))
       ∷ (not (isCount freq ds) ⇒ stop 9)
       ∷ (isLetter b ⇒ lettering qs b)
@@ -107,7 +107,7 @@ module _ (freq : ℕ) where
       (past w (λ _. past tt (λ count.
       let more = one-more ps (pair n (number ds)) (w .0) (w .1) (and-true (countFits freq n) _ (w .2) (count-fits ds count)) in
       past (lettering-fine qs b more) (λ _. past more (λ _. tt)))))
-  step-fine ps spelling b w = beginning-fine ps b w
+  stride-fine ps spelling b w = beginning-fine ps b w
 
   abbrev Fits : Reading → Type 0
   Fits r = Within (r .pairs)
@@ -115,20 +115,20 @@ module _ (freq : ℕ) where
   no-pairs : Within []
   no-pairs = record { few = omega arith; fit = refl }
 
-  ended-fine : (ps : List Pair) (place : Place) → Fine ps place → Fits (ended freq ps place)
+  ended-fine : (ps : List Pair) (reach : Reach) → Fine ps reach → Fits (ended freq ps reach)
   ended-fine ps opening w = cond-case Fits (eqb (length ps) 0) _ _ (λ _. no-pairs) (λ _. w)
   ended-fine ps (on ds) w = cond-case Fits (isCount freq ds) _ _ (λ _. no-pairs) (λ _. no-pairs)
-  ended-fine ps (due n) w = no-pairs
+  ended-fine ps (offDue n) w = no-pairs
   ended-fine ps (off n ds) w =
       cond-case Fits (isCount freq ds) _ _
       (λ e. one-more ps (pair n (number ds)) (w .0) (w .1) (and-true (countFits freq n) _ (w .2) (count-fits ds (rw e)))) (λ _. no-pairs)
   ended-fine ps spelling w = no-pairs
 
-  reads-fine : (s : List ℕ) (ps : List Pair) (place : Place) → Fine ps place → Fits (reads freq ps place s)
-  reads-fine [] ps place w = ended-fine ps place w
-  reads-fine (b ∷ s) ps place w = next (step freq ps place b) (step-fine ps place b w) (reads-fine s)
+  reads-fine : (s : List ℕ) (ps : List Pair) (reach : Reach) → Fine ps reach → Fits (reads freq ps reach s)
+  reads-fine [] ps reach w = ended-fine ps reach w
+  reads-fine (b ∷ s) ps reach w = next (stride freq ps reach b) (stride-fine ps reach b w) (reads-fine s)
     where
-      next : (t : Step) → FineStep t → ((qs : List Pair) (q : Place) → Fine qs q → Fits (reads freq qs q s))
+      next : (t : Stride) → FineStride t → ((qs : List Pair) (q : Reach) → Fine qs q → Fits (reads freq qs q s))
           → Fits (after t (λ qs q. reads freq qs q s))
       next (stop n) f ih = no-pairs
       next (go qs q) f ih = ih qs q f

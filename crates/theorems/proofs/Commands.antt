@@ -11,12 +11,14 @@ use Rattle.laws.specs.Lists.{same}
 use Rattle.laws.proofs.Choice.{by-test, and-left, and-right}
 use Rattle.laws.proofs.Lists.{same-is, same-self}
 use Rattle.words.specs.Decimal.{decimal}
+use Rattle.words.specs.Places.{connectors}
 use Rattle.words.specs.declared.Pair.{Pair}
 use Rattle.words.specs.declared.Fields.{Fields}
 use Rattle.words.specs.Digits.{Spells}
 use Rattle.meaning.specs.Line as text
 use Rattle.meaning.specs.Line.{is, addressed}
-use Rattle.meaning.specs.Time.{Transmission, countsOf}
+use Rattle.words.specs.Pairs.{countsOf}
+use Rattle.meaning.specs.Time.{Transmission}
 use Rattle.meaning.specs.Time as time
 use Rattle.meaning.specs.Log.{Deed, setting, event, changed, renewed, halted, modeOf, contactOf, lastOf, ownerOf, onAir}
 use Rattle.meaning.specs.Table.{Call, line, Judged, error, does, taken, replied, deedsOf, reply, answerOf, isSame, judge, logged}
@@ -150,7 +152,7 @@ module _ (log : List Deed) (connection p : ℕ) where
 
 -- "stopir .. 013": not in SENSOR it is always done
 pub stop-tells : (log : List Deed) (connection room : ℕ) {dm dp : List ℕ} {p : ℕ} → Heard connection room → Spells dm 1 → Spells dp p
-    → 1 ≤ p → p ≤ 3 → is "SENSOR" (modeOf p log) ≡ false
+    → 1 ≤ p → p ≤ connectors → is "SENSOR" (modeOf p log) ≡ false
     → Stops log (line connection room (fields (bytes "stopir" ∷ at dm dp ∷ []))) connection p
 unfolding onAir
 stop-tells log connection room {dm} {dp} {p} h one port least most mode =
@@ -167,7 +169,7 @@ stop-tells log connection room {dm} {dp} {p} h one port least most mode =
 
 -- ---- set_IR
 module _ (log : List Deed) (connection room : ℕ) {dm dp mode : List ℕ} {p : ℕ} (h : Heard connection room) (one : Spells dm 1)
-    (port : Spells dp p) (least : 1 ≤ p) (most : p ≤ 3) (word : ModeWord p mode) where
+    (port : Spells dp p) (least : 1 ≤ p) (most : p ≤ connectors) (word : ModeWord p mode) where
   set-judged : judge log (line connection room (settingText dm dp mode)) ≡ modeSet log p mode
   set-judged = set-IR-spelled log connection room h port least most one word
 

@@ -1,18 +1,20 @@
 -- Each transmission that is left alone is followed by exactly one notice, over any number of waits.
-use Prim.Native.Nat.{ℕ, suc, _+_, _-_, _≤_}
+use Prim.Native.Nat.{ℕ, suc, _+_, _-_, _%_, _≤_}
 use mathlib.Core.Path.{_≡_, refl, sym, ap, ap₂, _∙_, subst}
 use mathlib.Core.Bool.{Bool, true, false, cond, not, _&&_}
-use mathlib.Core.List.{List, [], _∷_, _++_, append-nil}
+use mathlib.Core.List.{List, [], _∷_, _++_}
 use mathlib.Core.Option.{Option, none, some}
 use native.Mathlib.Omega.{arith}
 use native.Mathlib.Nat.{add-zero}
-use borrow.Author.Tests.{le-leb, leb-true, leb-false, eqb-true, eq-eqb, not-true}
+use borrow.Author.Tests.{le-leb, leb-true, leb-false, eqb-true, eq-eqb, ne-eqb, not-true}
 use lib.Dec.{ltb, leb, eqb}
 use lib.ListN.{length}
-use Rattle.laws.specs.Lists.{all}
-use Rattle.laws.proofs.Choice.{clash, cond-case, by-test, not-both, and-left, and-right}
+use Rattle.laws.specs.Lists.{all, gathered}
+use Rattle.laws.proofs.Choice.{clash, cond-case, by-test, not-both, and-left, and-right, same-test}
 use Rattle.laws.proofs.Checks.{first-all}
 use Rattle.words.specs.Decimal.{decimal}
+use Rattle.words.specs.Places.{connectors, ports}
+use Rattle.text.proofs.Decimals.{decimal-small}
 use Rattle.meaning.specs.Line as text
 use Rattle.meaning.specs.Time.{Transmission, complete, finish}
 use Rattle.meaning.specs.Log.{Deed, passed, setting, switched, event, started, renewed, halted, left, now, lastOf, ownerOf, onAir}
@@ -20,7 +22,8 @@ use Rattle.meaning.specs.Table.{Completion, refused, taken, replied, Judged, re
 use Rattle.theorems.specs.Deeds.{Port, Did, nothing, changes, reads, switches, starts, renews, halts, leaves, passes}
 use Rattle.theorems.specs.Notices.{Notice, noticeOf, isFor, noticesIn, noticesOf, notices, loggedAll, touches, startsOn, LeftAlone, Unstarted}
 use Rattle.theorems.proofs.Rows.{by-rows}
-use Rattle.theorems.proofs.Deeds.{ports, did}
+use Rattle.theorems.proofs.Deeds.{did}
+use Rattle.theorems.proofs.Ports.{gathered-none, gathered-alone}
 use Rattle.theorems.proofs.Times.{Begun, begun-later, complete-is, BegunBy, last-begun, on-air-is, none-later}
 
 -- ---- only a wait tells completions
@@ -95,28 +98,27 @@ module _ (p t : ℕ) where
 -- ---- a wait, and one connector
 
 -- the notice of a transmission on connector q is for q alone
-is-for : (p q : ℕ) → Port p → Port q → (moment : ℕ) (owner : Option ℕ) (id : ℕ)
+is-for : (p q : ℕ) → Port connectors p → Port connectors q → (moment : ℕ) (owner : Option ℕ) (id : ℕ)
     → isFor p (record { moment = moment; owner = owner; notice = text.line "completeir," 1 q (decimal id) }) ≡ eqb q p
-unfolding isFor decimal
+unfolding isFor
 is-for p q a b moment owner id =
-    ports p a (λ p. Alone p q)
-    (ports q b (Alone 1) refl refl refl) (ports q b (Alone 2) refl refl refl) (ports q b (Alone 3) refl refl refl)
-  where
-    Alone : ℕ → ℕ → Type 0
-    Alone p q = isFor p (record { moment = moment; owner = owner; notice = text.line "completeir," 1 q (decimal id) }) ≡ eqb q p
+    rw (decimal-small 1 (omega arith), decimal-small p (omega (arith, a .most)), decimal-small q (omega (arith, b .most)))
+    (same-test _ (eqb q p)
+    (λ e. eq-eqb q p (let d = eqb-true (48 + q % 10) (48 + p % 10) (and-left _ _ e) in omega (arith, a .most, b .most)))
+    (λ e. let d = eqb-true q p e in rw (d, eq-eqb (48 + p % 10) (48 + p % 10) refl)))
 
-module _ (p : ℕ) (port : Port p) (n : ℕ) (log : List Deed) where
+module _ (p : ℕ) (port : Port connectors p) (n : ℕ) (log : List Deed) where
   abbrev heard : ℕ → List Notice
   heard q = noticesIn p (now log) (due n log q)
 
-  others : (q : ℕ) → Port q → eqb q p ≡ false → heard q ≡ []
-  others q a e = go (onAir q log)
+  others : (q : ℕ) → Port connectors q → (q ≡ p → ⊥) → heard q ≡ []
+  others q a differs = go (onAir q log)
     where
       go : (o : Option Transmission) → noticesIn p (now log) (dueOf n (now log) q (ownerOf q log) o) ≡ []
       go none = refl
       go (some s) =
           cond-case (λ (l : List Completion). noticesIn p (now log) l ≡ []) (complete s (now log + n)) _ []
-          (λ _. rw (is-for p q port a (finish s - now log) (ownerOf q log) (s .fields .id), e)) (λ _. refl)
+          (λ _. rw (is-for p q port a (finish s - now log) (ownerOf q log) (s .fields .id), ne-eqb q p differs)) (λ _. refl)
 
   at-most-one : (q : ℕ) → length (heard q) ≤ 1
   at-most-one q = go (onAir q log)
@@ -130,33 +132,21 @@ module _ (p : ℕ) (port : Port p) (n : ℕ) (log : List Deed) where
           cond-case (λ (l : List Completion). length (noticesIn p (now log) l) ≤ 1) (complete s (now log + n)) _ []
           (λ _. one _) (λ _. omega arith)
 
-  three : noticesIn p (now log) (due n log 1 ++ due n log 2 ++ due n log 3) ≡ heard 1 ++ heard 2 ++ heard 3
-  three =
-      notices-append p (now log) (due n log 1 ++ due n log 2) (due n log 3)
-      ∙ ap (λ (l : List Notice). l ++ heard 3) (notices-append p (now log) (due n log 1) (due n log 2))
+  by-port : (l : List ℕ) → noticesIn p (now log) (gathered (due n log) l) ≡ gathered heard l
+  by-port [] = refl
+  by-port (q ∷ l) =
+      notices-append p (now log) (due n log q) (gathered (due n log) l) ∙ ap (λ (k : List Notice). heard q ++ k) (by-port l)
 
-  alone : heard 1 ++ heard 2 ++ heard 3 ≡ heard p
+  -- those for connector p among all that is due are what is due of it
+  alone : noticesIn p (now log) (gathered (due n log) ports) ≡ heard p
   alone =
-      ports p port (λ q. p ≡ q → heard 1 ++ heard 2 ++ heard 3 ≡ heard p)
-      (λ e. (λ i. heard 1 ++ others 2 second (ap (eqb 2) e) i ++ others 3 third (ap (eqb 3) e) i)
-      ∙ append-nil (heard 1 ++ []) ∙ append-nil (heard 1) ∙ ap heard (sym e))
-      (λ e. (λ i. others 1 first-port (ap (eqb 1) e) i ++ heard 2 ++ others 3 third (ap (eqb 3) e) i) ∙ append-nil (heard 2) ∙ ap heard (sym e))
-      (λ e. (λ i. others 1 first-port (ap (eqb 1) e) i ++ others 2 second (ap (eqb 2) e) i ++ heard 3) ∙ ap heard (sym e))
-      refl
-    where
-      first-port : Port 1
-      first-port = record { least = omega arith; most = omega arith }
+      by-port ports
+      ∙ gathered-alone heard p 1 connectors (port .least) (omega (arith, port .most))
+      (λ q l m differs. others q (record { least = l; most = omega arith }) differs)
 
-      second : Port 2
-      second = record { least = omega arith; most = omega arith }
-
-      third : Port 3
-      third = record { least = omega arith; most = omega arith }
-
-  -- of all completions of a wait those for connector p are what is due of it
+  -- and the order does not change them
   notices-wait : noticesIn p (now log) (completions n log) ≡ heard p
-  notices-wait =
-      notices-ordered p (now log) (due n log 1 ++ due n log 2 ++ due n log 3) (rw (three, alone) (at-most-one p)) ∙ three ∙ alone
+  notices-wait = notices-ordered p (now log) (gathered (due n log) ports) (rw alone (at-most-one p)) ∙ alone
 
 -- ---- what a call is to a connector: it tells no completion and no time passes, or it is a wait
 data Way (log : List Deed) : Judged → Type 0 where
@@ -214,7 +204,7 @@ untouched p (event (renewed q) ∷ ds) log e = rw (not-true (eqb q p) (and-left 
 untouched p (event (halted q) ∷ ds) log e = rw (not-true (eqb q p) (and-left _ _ e)) (untouched p ds log (and-right (not (eqb q p)) _ e))
 untouched p (event (left c) ∷ ds) log e = untouched p ds log e
 
-module _ (p : ℕ) (port : Port p) (s : Transmission) where
+module _ (p : ℕ) (port : Port connectors p) (s : Transmission) where
   -- what is told over these calls, of a transmission that the log has: nothing if it is complete, else its notice if its end is reached
   abbrev Tells : List Deed → List Call → List Notice → Type 0
   Tells log l told = told ≡ cond (leb (finish s) (now log)) [] (cond (leb (finish s) (now (loggedAll log l))) (noticeOf p s ∷ []) [])
@@ -258,7 +248,7 @@ module _ (p : ℕ) (port : Port p) (s : Transmission) where
 
 -- After every history: a transmission on air that none of the later calls touches is followed by its one notice, at its moment, if the clock
 -- gets there, and by none otherwise; over any number of waits
-pub completes-exactly-once : (h : List Call) (p : ℕ) (s : Transmission) (l : List Call) → Port p → onAir p (logOf h) ≡ some s
+pub completes-exactly-once : (h : List Call) (p : ℕ) (s : Transmission) (l : List Call) → Port connectors p → onAir p (logOf h) ≡ some s
     → LeftAlone p (logOf h) l
     → notices p (logOf h) l ≡ cond (leb (finish s) (now (loggedAll (logOf h) l))) (noticeOf p s ∷ []) []
 completes-exactly-once h p s l port e a =
@@ -284,7 +274,7 @@ silent-on h p call ds (halts r c _ _ _) e a = by-test (eqb r p) (λ t. rw t) (λ
 silent-on h p call ds (leaves c _ _) e a = e
 silent-on h p call ds (passes n _ _) e a = none-later (now (logOf h)) n (lastOf p (logOf h)) (last-begun h p) e
 
-module _ (p : ℕ) (port : Port p) where
+module _ (p : ℕ) (port : Port connectors p) where
   tells-none : (log : List Deed) (j : Judged) → Way log j → onAir p log ≡ none → noticesOf p (now log) (answerOf j) ≡ []
   tells-none log j (stays plain same) e = plain-tells p (now log) j plain
   tells-none log j (waits n) e = notices-wait p port n log ∙ rw e
@@ -298,7 +288,7 @@ module _ (p : ℕ) (port : Port p) where
 
 -- "A wait of 0 changes nothing": it completes nothing either
 pub wait-of-0-completes-nothing : (log : List Deed) → completions 0 log ≡ []
-wait-of-0-completes-nothing log = λ i. ordered (nothing-due 1 i ++ nothing-due 2 i ++ nothing-due 3 i)
+wait-of-0-completes-nothing log = ap ordered (gathered-none (due 0 log) 1 connectors (λ p _ _. nothing-due p))
   where
     go : (p : ℕ) (o : Option Transmission) → ((s : Transmission) → o ≡ some s → complete s (now log) ≡ false)
         → dueOf 0 (now log) p (ownerOf p log) o ≡ []

@@ -10,11 +10,12 @@ use lib.Dec.{ltb, eqb}
 use lib.ListN.{length, take, drop, getD, length-append}
 use Rattle.laws.specs.Bytes.{bytes}
 use Rattle.laws.specs.Checks.{first, isSome}
-use Rattle.laws.specs.Lists.{all, same, cut, part}
+use Rattle.laws.specs.Lists.{all, same, cut}
 use Rattle.laws.proofs.Choice.{clash, cond-case, by-test, not-both, and-left, and-right}
 use Rattle.laws.proofs.Checks.{through, past, first-all}
 use Rattle.laws.proofs.Lists.{all-append}
 use Rattle.words.specs.Decimal.{decimal, decimalIn, threeDigits}
+use Rattle.words.specs.Places.{connectors, relays, portsOf}
 use Rattle.text.proofs.Decimals.{decimal-small}
 use Rattle.meaning.specs.Line as text
 use Rattle.meaning.specs.Log.{Deed, passed, setting, switched, event, changed, felt, modeOf, contactOf, relayOf}
@@ -42,9 +43,9 @@ module _ (log : List Deed) (p connection room : ℕ) (s : List ℕ) where
         a .name,
         a .address,
         a .module-within,
+        a .module-is,
         a .port-within,
         le-ltb 2 (length (cut 44 s)) (a .ends),
-        a .module-is,
         a .port-is,
       )
 
@@ -110,7 +111,14 @@ others w words told (does (replied text to) deeds) s o e =
 abbrev otherRow : List ℕ → Row → Bool
 otherRow w r = all (λ k. other w (k .gives)) (r .checks) && other w (r .otherwise)
 
-module _ (log : List Deed) (p v : ℕ) (told : Option ℕ) (port : Port p) (small : v ≤ 1) where
+-- the port of an address that the table lets pass has one digit
+port-digit : (m : ℕ) (f : List ℕ) → not (text.within 1 (portsOf m) f) ≡ false → text.number f < 10
+port-digit m f e =
+    let few : portsOf m < 10 = cond-case (λ (n : ℕ). n < 10) (eqb m 1) connectors relays (λ _. omega arith) (λ _. omega arith) in
+    omega (arith, within-is 1 (portsOf m) f e .1)
+
+-- ---- of a contact
+module _ (log : List Deed) (p v : ℕ) (told : Option ℕ) (port : Port connectors p) (small : v ≤ 1) where
   record FromContact (j : Judged) : Type 0 where
     tells : answerOf j ≡ replied (text.line "state," 1 p (decimal v)) told → (inSensor p log ≡ true) × (contactOf p log ≡ some v)
 
@@ -124,13 +132,13 @@ module _ (log : List Deed) (p v : ℕ) (told : Option ℕ) (port : Port p) (smal
   no-contact-row : (r : Row) → otherRow (bytes "state,1") r ≡ true → RowContact r
   no-contact-row r o = not-contact (first (r .checks) (r .otherwise)) (first-all (other (bytes "state,1")) (r .checks) (r .otherwise) o)
 
-  contact-said : (q : ℕ) → Port q → inSensor q log ≡ true → (o : Option ℕ) → contactOf q log ≡ o → isSome o ≡ true
+  contact-said : (q : ℕ) → q < 10 → inSensor q log ≡ true → (o : Option ℕ) → contactOf q log ≡ o → isSome o ≡ true
       → replied (text.line "state," 1 q (decimal (Option·getD o 0))) none ≡ replied (text.line "state," 1 p (decimal v)) told
       → (inSensor p log ≡ true) × (contactOf p log ≡ some v)
   contact-said q a mode none c i e = not-both i refl
   contact-said q a mode (some u) c i e =
       let w : text.line "state," 1 q (decimal u) ≡ text.line "state," 1 p (decimal v) = cc in
-      let t = state-text 1 q u p v (omega arith) (omega (arith, a .most)) (omega (arith, port .most)) (omega arith) w in
+      let t = state-text 1 q u p v (omega arith) a (omega (arith, port .most)) (omega arith) w in
       let g : q ≡ p = t .0 in
       (rw g at mode, rw g at c ∙ ap some (t .1))
 
@@ -141,10 +149,9 @@ module _ (log : List Deed) (p v : ℕ) (told : Option ℕ) (port : Port p) (smal
         through FromContact (getstate log connection s .checks) (getstate log connection s .otherwise)
         (past (not-contact _ refl) (λ _. past (not-contact _ refl) (λ _. past (not-contact _ refl) (λ port. past (not-contact _ refl) (λ _.
         past (not-contact _ refl) (λ _. past (not-contact _ refl) (λ mode. past (not-contact _ refl) (λ read.
-        let w = within-is 1 3 (part 58 1 (field log connection s 1)) port in
         record {
           tells =
-              contact-said (table.p log connection s) (record { least = w .0; most = w .1 }) (not-false _ mode)
+              contact-said (table.p log connection s) (port-digit (table.m log connection s) _ port) (not-false _ mode)
               (contactOf (table.p log connection s) log) refl (not-false _ read);
         }))))))))
 
@@ -176,7 +183,8 @@ module _ (log : List Deed) (p v : ℕ) (told : Option ℕ) (port : Port p) (smal
       → (inSensor p log ≡ true) × (contactOf p log ≡ some v)
   state-is-last-reading call e = call-contact call .tells e
 
-  -- ---- the same of a relay
+-- ---- the same of a relay
+module _ (log : List Deed) (p v : ℕ) (told : Option ℕ) (port : Port relays p) (small : v ≤ 1) where
   record FromRelay (j : Judged) : Type 0 where
     tells : answerOf j ≡ replied (text.line "state," 2 p (decimal v)) told → relayOf p (deedsOf j ++ log) ≡ v
 
@@ -190,25 +198,22 @@ module _ (log : List Deed) (p v : ℕ) (told : Option ℕ) (port : Port p) (smal
   no-relay-row : (r : Row) → otherRow (bytes "state,2") r ≡ true → RowRelay r
   no-relay-row r o = not-relay (first (r .checks) (r .otherwise)) (first-all (other (bytes "state,2")) (r .checks) (r .otherwise) o)
 
-  relay-said : (q u : ℕ) → q ≤ 3 → replied (text.line "state," 2 q (decimal u)) none ≡ replied (text.line "state," 2 p (decimal v)) told
+  relay-said : (q u : ℕ) → q < 10 → replied (text.line "state," 2 q (decimal u)) none ≡ replied (text.line "state," 2 p (decimal v)) told
       → (q ≡ p) × (u ≡ v)
   relay-said q u h e =
       let w : text.line "state," 2 q (decimal u) ≡ text.line "state," 2 p (decimal v) = cc in
-      state-text 2 q u p v (omega arith) (omega arith) (omega (arith, port .most)) (omega arith) w
+      state-text 2 q u p v (omega arith) h (omega (arith, port .most)) (omega arith) w
 
   module _ (connection : ℕ) (s : List ℕ) where
     abbrev q : ℕ
     q = table.p log connection s
-
-    asked-port : not (text.within 1 3 (part 58 1 (field log connection s 1))) ≡ false → q ≤ 3
-    asked-port e = within-is 1 3 (part 58 1 (field log connection s 1)) e .1
 
     getstate-relay : RowRelay (getstate log connection s)
     unfolding getstate decimal
     getstate-relay =
         through FromRelay (getstate log connection s .checks) (getstate log connection s .otherwise)
         (past (not-relay _ refl) (λ _. past (not-relay _ refl) (λ _. past (not-relay _ refl) (λ port. past (not-relay _ refl) (λ _.
-        past (record { tells = λ e. let t = relay-said q (relayOf q log) (asked-port port) e in rw (t .0) at (t .1) })
+        past (record { tells = λ e. let t = relay-said q (relayOf q log) (port-digit (table.m log connection s) _ port) e in rw (t .0) at (t .1) })
         (λ _. past (not-relay _ refl) (λ _. past (not-relay _ refl) (λ _. not-relay _ refl))))))))
 
     setstate-relay : RowRelay (setstate log connection s)
@@ -219,7 +224,7 @@ module _ (log : List Deed) (p v : ℕ) (told : Option ℕ) (port : Port p) (smal
         past (not-relay _ refl) (λ _. past (not-relay _ refl) (λ _.
         record {
           tells =
-              λ e. let t = relay-said q (text.number (field log connection s 2)) (asked-port port) e in rw (eq-eqb q p (t .0)) (t .1);
+              λ e. let t = relay-said q (text.number (field log connection s 2)) (port-digit (table.m log connection s) _ port) e in rw (eq-eqb q p (t .0)) (t .1);
         }))))))
 
     request-relay : RowRelay (request log connection s)

@@ -1,5 +1,5 @@
 -- What each call may have done, read off its row.
-use Prim.Native.Nat.{ℕ, zero, suc, _%_, _≤_}
+use Prim.Native.Nat.{ℕ, _%_, _≤_}
 use mathlib.Core.Path.{_≡_, refl, sym, ap}
 use mathlib.Core.Bool.{Bool, true, false, cond, not, _&&_, _||_}
 use mathlib.Core.List.{List, []}
@@ -14,6 +14,7 @@ use Rattle.laws.specs.Lists.{same, part, behind}
 use Rattle.laws.proofs.Choice.{cond-case, not-both, and-left, and-right}
 use Rattle.laws.proofs.Checks.{Through, through, past, none-of, some-of}
 use Rattle.laws.proofs.Lists.{same-is, same-self}
+use Rattle.words.specs.Places.{connectors, portsOf}
 use Rattle.meaning.specs.Line.{is, isNumber, number, within, codeIn}
 use Rattle.meaning.specs.Log.{Deed, isOwner, ownerOf, onAir, modeOf}
 use Rattle.meaning.specs.Table.{Judged, Row, Call, line, overlong, reading, closing, waiting, deedsOf, judge, getdevices, getversion, set-IR, get-IR, setstate, getstate, sendir, stopir, request, field, rowOf}
@@ -21,14 +22,6 @@ use Rattle.meaning.specs.Table as table
 use Rattle.theorems.proofs.Codes.{code-pairs}
 use Rattle.theorems.proofs.Rows.{by-rows, by-line}
 use Rattle.theorems.specs.Deeds.{Port, LineOf, ModeWord, ir, sensor, blaster, Limits, Did, nothing, changes, reads, switches, starts, renews, halts, leaves, passes}
-
--- ---- a port is 1, 2 or 3
-pub ports : (p : ℕ) → Port p → (P : ℕ → Type 0) → P 1 → P 2 → P 3 → P p
-ports zero port P a b c = absurd (omega (arith, port .least))
-ports (suc zero) port P a b c = a
-ports (suc (suc zero)) port P a b c = b
-ports (suc (suc (suc zero))) port P a b c = c
-ports (suc (suc (suc (suc n)))) port P a b c = absurd (omega (arith, port .most))
 
 -- ---- what a test tells
 
@@ -90,25 +83,34 @@ module _ (log : List Deed) (connection room : ℕ) (text : List ℕ) (c : connec
   asked : LineOf connection asks
   asked = record { room = room; text = text; is = refl; most = c }
 
-  port-is : not (within 1 3 (part 58 1 (field log connection text 1))) ≡ false → Port p
-  port-is e = let w = within-is 1 3 _ e in record { least = w .0; most = w .1 }
+  abbrev m : ℕ
+  m = table.m log connection text
+
+  -- an address that the table lets pass has a port of its module
+  port-of : (k : ℕ) → not (within k k (part 58 0 (field log connection text 1))) ≡ false
+      → not (within 1 (portsOf m) (part 58 1 (field log connection text 1))) ≡ false → Port (portsOf k) p
+  port-of k only port =
+      let r = within-is k k (part 58 0 (field log connection text 1)) only in
+      let is : m ≡ k = omega arith in
+      let w = within-is 1 (portsOf m) (part 58 1 (field log connection text 1)) port in
+      record { least = w .0; most = rw is at (w .1) }
 
   set-IR-did : Meets log asks (set-IR log connection text)
   unfolding set-IR
   set-IR-did =
-      past nothing (λ _. past nothing (λ _. past nothing (λ port. past nothing (λ mode.
+      past nothing (λ _. past nothing (λ only. past nothing (λ port. past nothing (λ mode.
       past nothing (λ third. past nothing (λ _. past nothing (λ air.
       let word = field log connection text 2 in
       cond-case (Did log asks) (same (modeOf p log) word) [] _
       (λ _. nothing)
-      (λ other. changes p connection word asked (port-is port) (mode-of p word mode third)
+      (λ other. changes p connection word asked (port-of 1 only port) (mode-of p word mode third)
       (λ e. not-both (rw e (same-self word)) other) (none-of (onAir p log) air)))))))))
 
   setstate-did : Meets log asks (setstate log connection text)
   unfolding setstate
   setstate-did =
-      past nothing (λ _. past nothing (λ _. past nothing (λ port. past nothing (λ state. past nothing (λ _.
-      switches p connection _ asked (port-is port) (within-is 0 1 (field log connection text 2) state .1))))))
+      past nothing (λ _. past nothing (λ only. past nothing (λ port. past nothing (λ state. past nothing (λ _.
+      switches p connection _ asked (port-of 2 only port) (within-is 0 1 (field log connection text 2) state .1))))))
 
   getstate-did : Meets log asks (getstate log connection text)
   unfolding getstate
@@ -119,13 +121,13 @@ module _ (log : List Deed) (connection room : ℕ) (text : List ℕ) (c : connec
   stopir-did : Meets log asks (stopir log connection text)
   unfolding stopir
   stopir-did =
-      past nothing (λ _. past nothing (λ _. past nothing (λ port. past nothing (λ _. past nothing (λ mode.
-      halts p connection asked (port-is port) mode)))))
+      past nothing (λ _. past nothing (λ only. past nothing (λ port. past nothing (λ _. past nothing (λ mode.
+      halts p connection asked (port-of 1 only port) mode)))))
 
   sendir-did : Meets log asks (sendir log connection text)
   unfolding sendir
   sendir-did =
-      past nothing (λ _. past nothing (λ _. past nothing (λ port. past nothing (λ mode.
+      past nothing (λ _. past nothing (λ only. past nothing (λ port. past nothing (λ mode.
       past nothing (λ id. past nothing (λ freq. past nothing (λ repeat. past nothing (λ odd. past nothing (λ _. past nothing (λ offset.
       let limits : Limits _ (codeIn _ _ .pairs) =
       record {
@@ -141,14 +143,14 @@ module _ (log : List Deed) (connection room : ℕ) (text : List ℕ) (c : connec
         pairs-most = code-pairs (number (field log connection text 3)) (behind 44 6 text) .few;
         pairs-fit = code-pairs (number (field log connection text 3)) (behind 44 6 text) .fit;
       } in (
-        λ air. starts p connection _ _ asked (port-is port) mode limits (inl (none-of (onAir p log) (not-true _ air))),
+        λ air. starts p connection _ _ asked (port-of 1 only port) mode limits (inl (none-of (onAir p log) (not-true _ air))),
         λ air.
             past nothing (λ own.
             let mine = owner-is connection (ownerOf p log) (not-false _ own) in
             let running = some-of (onAir p log) (not-false _ air) in (
-              λ _. renews p connection (running .0) asked (port-is port) mode (running .1) mine,
+              λ _. renews p connection (running .0) asked (port-of 1 only port) mode (running .1) mine,
               λ _.
-                  starts p connection _ _ asked (port-is port) mode limits (inr mine),
+                  starts p connection _ _ asked (port-of 1 only port) mode limits (inr mine),
             )),
       )))))))))))
     where
@@ -185,10 +187,10 @@ did log (reading q value) =
     by-row log call (rowOf log call)
     (past nothing (λ e.
     let all = not-false _ e in
-    let front = and-left (between 1 3 q && is "SENSOR" (modeOf q log)) (between 0 1 value) all in
-    let port = between-is 1 3 q (and-left (between 1 3 q) (is "SENSOR" (modeOf q log)) front) in
-    let mode = and-right (between 1 3 q) (is "SENSOR" (modeOf q log)) front in
-    let small = between-is 0 1 value (and-right (between 1 3 q && is "SENSOR" (modeOf q log)) (between 0 1 value) all) .1 in
+    let front = and-left (between 1 connectors q && is "SENSOR" (modeOf q log)) (between 0 1 value) all in
+    let port = between-is 1 connectors q (and-left (between 1 connectors q) (is "SENSOR" (modeOf q log)) front) in
+    let mode = and-right (between 1 connectors q) (is "SENSOR" (modeOf q log)) front in
+    let small = between-is 0 1 value (and-right (between 1 connectors q && is "SENSOR" (modeOf q log)) (between 0 1 value) all) .1 in
     reads q value refl (record { least = port .0; most = port .1 }) mode small))
 did log (closing connection) =
     let call = closing connection in

@@ -3,7 +3,7 @@
 use Prim.Native.Nat.{ℕ, _+_}
 use mathlib.Core.Path.{_≡_, refl, ap, ap₂, subst}
 use mathlib.Core.Bool.{Bool, true, false, cond, not, _&&_}
-use mathlib.Core.List.{List, [], _∷_, _++_}
+use mathlib.Core.List.{List, [], _∷_, _++_, map}
 use mathlib.Core.Option.{Option, Option·map}
 use native.Mathlib.Nat.{add-assoc, add-zero}
 use borrow.Author.Tests.{not-true}
@@ -11,9 +11,10 @@ use lib.Dec.{ltb, eqb}
 use lib.ListN.{take}
 use Rattle.laws.specs.Bytes.{bytes}
 use Rattle.laws.specs.Checks.{holds}
-use Rattle.laws.specs.Lists.{all, same}
+use Rattle.laws.specs.Lists.{all, same, gathered}
 use Rattle.laws.proofs.Choice.{clash, not-both}
 use Rattle.laws.proofs.Checks.{first-all}
+use Rattle.words.specs.Places.{ports}
 use Rattle.meaning.specs.Time.{Transmission, carrier}
 use Rattle.meaning.specs.Time as time
 use Rattle.meaning.specs.Log.{Deed, passed, setting, switched, event, changed, felt, started, renewed, halted, left, now, modeOf, contactOf, relayOf, lastOf, ownerOf, onAir, until}
@@ -125,7 +126,7 @@ module _ (a b : List Deed) (q : Alike a b) where
   due-same n p = λ i. dueOf n (q .moments i) p (q .owners p i) (airs p i)
 
   completions-alike : (n : ℕ) → completions n a ≡ completions n b
-  completions-alike n = λ i. ordered (due-same n 1 i ++ due-same n 2 i ++ due-same n 3 i)
+  completions-alike n = λ i. ordered (gathered (λ p. due-same n p i) ports)
 
   pub judged-same : (call : Call) → judge a call ≡ judge b call
   judged-same (line c room s) = rw request-same
@@ -135,7 +136,7 @@ module _ (a b : List Deed) (q : Alike a b) where
   judged-same (waiting n) = λ i. cond (ltb 1000000000 n) (refusal 103) (does (taken (completions-alike n i)) (passed n ∷ []))
 
   carriers-same : carriers a ≡ carriers b
-  carriers-same = λ i. lit 1 i ∷ lit 2 i ∷ lit 3 i ∷ []
+  carriers-same = λ i. map (λ p. lit p i) ports
     where
       lit : (p : ℕ) → holds (λ s. carrier s (now a)) (onAir p a) ≡ holds (λ s. carrier s (now b)) (onAir p b)
       lit p = ap₂ (λ (t : ℕ) (o : Option Transmission). holds (λ s. carrier s t) o) (q .moments) (airs p)

@@ -3,6 +3,7 @@ pub mod Codes
 pub mod Deeds
 pub mod Owners
 pub mod Times
+pub mod Ports
 pub mod Completing
 pub mod Longest
 pub mod Silent

@@ -13,7 +13,9 @@ use Rattle.laws.specs.Lists.{all, times}
 use Rattle.laws.proofs.Choice.{clash, and-left, and-right}
 use Rattle.words.specs.declared.Pair.{Pair}
 use Rattle.words.specs.declared.Fields.{Fields}
-use Rattle.meaning.specs.Time.{countsOf, lasts, inTicks, furtherCopy, waveform, total, done, complete, finish}
+use Rattle.words.specs.Pairs.{countsOf}
+use Rattle.words.specs.Places.{connectors}
+use Rattle.meaning.specs.Time.{lasts, inTicks, furtherCopy, waveform, total, done, complete, finish}
 use Rattle.meaning.specs.Time as time
 use Rattle.meaning.specs.Log.{Deed, passed, event, started, now, onAir}
 use Rattle.meaning.specs.Table.{Call, deedsOf, judge, logOf}
@@ -100,7 +102,7 @@ waits-last (suc k) log = omega (arith, waits-last k (passed 1000000000 ∷ log))
 
 -- what a call started was on a port and within the limits
 started-within : {log : List Deed} {call : Call} {ds : List Deed} (p c : ℕ) (f : Fields) (ps : List Pair) → Did log call ds
-    → ds ≡ event (started p c f ps) ∷ [] → Port p × Limits f ps
+    → ds ≡ event (started p c f ps) ∷ [] → Port connectors p × Limits f ps
 started-within p c f ps nothing e = clash (cc)
 started-within p c f ps (changes r b word _ _ _ _ _) e = clash (cc)
 started-within p c f ps (reads r v _ _ _ _) e = clash (cc)

@@ -10,14 +10,15 @@ use lib.ListN.{length}
 use borrow.Author.Tests.{leb-true, eqb-false, not-true, not-false, ltb-true}
 use Rattle.laws.specs.Checks.{FirstThat, between, oneOf, isSome}
 use Rattle.laws.specs.Lists.{part, behind}
-use Rattle.laws.proofs.Choice.{and-left, and-right, cond-case, not-both}
+use Rattle.laws.proofs.Choice.{and-left, and-right, cond-case, not-both, between-most}
 use Rattle.laws.proofs.Checks.{Through, through, some-of, first-that, that-first, one-of-all}
 use Rattle.words.specs.Digits.{isDigit, worth}
 use Rattle.words.specs.Decimal.{threeDigits}
 use Rattle.words.specs.Pairs.{pair}
+use Rattle.words.specs.Places.{connectors, relays, portsOf}
 use Rattle.words.specs.declared.Pair.{Pair}
 use Rattle.text.proofs.Decimals.{decimal-small}
-use Rattle.meaning.specs.Line.{number, isNumber, within, isAddress, is, isCount, isLetter, lettered, Place, opening, on, due, off, spelling, Step, stop, go, lettering, beginning, step, Reading, faulty, sound, ended, after, reads, codeIn}
+use Rattle.meaning.specs.Line.{number, isNumber, within, isAddress, is, isCount, isLetter, lettered, Reach, opening, on, offDue, off, spelling, Stride, stop, go, lettering, beginning, stride, Reading, faulty, sound, ended, after, reads, codeIn}
 use Rattle.meaning.specs.Log.{Deed}
 use Rattle.meaning.specs.Table as table
 use Rattle.meaning.specs.Table.{Answer, Judged, refusal, error, does, no, answerOf, Row, Call, line, overlong, reading, closing, waiting, rowOf, judge}
@@ -37,52 +38,52 @@ data Fine : Reading → Type 0 where
   has : {n : ℕ} → oneOf faultsOfCode n ≡ true → Fine (faulty n)
   hasNone : {ps : List Pair} → Fine (sound ps)
 
-data FineStep : Step → Type 0 where
-  stops : {n : ℕ} → oneOf faultsOfCode n ≡ true → FineStep (stop n)
-  goes : {ps : List Pair} {place : Place} → FineStep (go ps place)
+data FineStride : Stride → Type 0 where
+  stops : {n : ℕ} → oneOf faultsOfCode n ≡ true → FineStride (stop n)
+  goes : {ps : List Pair} {reach : Reach} → FineStride (go ps reach)
 
-after-fine : {x : Step} (reads : List Pair → Place → Reading) → FineStep x → ((ps : List Pair) (place : Place) → Fine (reads ps place))
+after-fine : {x : Stride} (reads : List Pair → Reach → Reading) → FineStride x → ((ps : List Pair) (reach : Reach) → Fine (reads ps reach))
     → Fine (after x reads)
 after-fine reads (stops e) g = has e
-after-fine reads (goes {ps} {place}) g = g ps place
+after-fine reads (goes {ps} {reach}) g = g ps reach
 
--- a choice of two steps, or of two readings
-steps : (t : Bool) {x y : Step} → FineStep x → FineStep y → FineStep (cond t x y)
-steps t {x} {y} f g = cond-case FineStep t x y (λ e. f) (λ e. g)
+-- a choice of two strides, or of two readings
+strides : (t : Bool) {x y : Stride} → FineStride x → FineStride y → FineStride (cond t x y)
+strides t {x} {y} f g = cond-case FineStride t x y (λ e. f) (λ e. g)
 
 fines : (t : Bool) {x y : Reading} → Fine x → Fine y → Fine (cond t x y)
 fines t {x} {y} f g = cond-case Fine t x y (λ e. f) (λ e. g)
 
-lettering-fine : (ps : List Pair) (b : ℕ) → FineStep (lettering ps b)
+lettering-fine : (ps : List Pair) (b : ℕ) → FineStride (lettering ps b)
 lettering-fine ps b =
-    steps (leb 260 (length ps)) (stops refl) (steps (not (ltb (b - 65) (length (lettered ps)))) (stops refl) goes)
+    strides (leb 260 (length ps)) (stops refl) (strides (not (ltb (b - 65) (length (lettered ps)))) (stops refl) goes)
 
-beginning-fine : (ps : List Pair) (b : ℕ) → FineStep (beginning ps b)
-beginning-fine ps b = steps (not (isDigit b)) (stops refl) (steps (leb 260 (length ps)) (stops refl) goes)
+beginning-fine : (ps : List Pair) (b : ℕ) → FineStride (beginning ps b)
+beginning-fine ps b = strides (not (isDigit b)) (stops refl) (strides (leb 260 (length ps)) (stops refl) goes)
 
-step-fine : (freq : ℕ) (ps : List Pair) (place : Place) (b : ℕ) → FineStep (step freq ps place b)
-step-fine freq ps opening b = steps (isLetter b) (lettering-fine ps b) (beginning-fine ps b)
-step-fine freq ps (on ds) b =
-    steps (isDigit b) goes
-    (steps (not (isCount freq ds)) (stops refl) (steps (isLetter b) (stops refl) (steps (eqb b 44) goes (stops refl))))
-step-fine freq ps (due n) b = steps (isLetter b) (stops refl) (steps (isDigit b) goes (stops refl))
-step-fine freq ps (off n ds) b =
-    steps (isDigit b) goes
-    (steps (not (isCount freq ds)) (stops refl)
-    (steps (isLetter b) (lettering-fine (ps ++ (pair n (number ds) ∷ [])) b) (steps (eqb b 44) goes (stops refl))))
-step-fine freq ps spelling b = beginning-fine ps b
+stride-fine : (freq : ℕ) (ps : List Pair) (reach : Reach) (b : ℕ) → FineStride (stride freq ps reach b)
+stride-fine freq ps opening b = strides (isLetter b) (lettering-fine ps b) (beginning-fine ps b)
+stride-fine freq ps (on ds) b =
+    strides (isDigit b) goes
+    (strides (not (isCount freq ds)) (stops refl) (strides (isLetter b) (stops refl) (strides (eqb b 44) goes (stops refl))))
+stride-fine freq ps (offDue n) b = strides (isLetter b) (stops refl) (strides (isDigit b) goes (stops refl))
+stride-fine freq ps (off n ds) b =
+    strides (isDigit b) goes
+    (strides (not (isCount freq ds)) (stops refl)
+    (strides (isLetter b) (lettering-fine (ps ++ (pair n (number ds) ∷ [])) b) (strides (eqb b 44) goes (stops refl))))
+stride-fine freq ps spelling b = beginning-fine ps b
 
-ended-fine : (freq : ℕ) (ps : List Pair) (place : Place) → Fine (ended freq ps place)
+ended-fine : (freq : ℕ) (ps : List Pair) (reach : Reach) → Fine (ended freq ps reach)
 ended-fine freq ps opening = fines (eqb (length ps) 0) (has refl) hasNone
 ended-fine freq ps (on ds) = fines (isCount freq ds) (has refl) (has refl)
-ended-fine freq ps (due n) = has refl
+ended-fine freq ps (offDue n) = has refl
 ended-fine freq ps (off n ds) = fines (isCount freq ds) hasNone (has refl)
 ended-fine freq ps spelling = has refl
 
-reads-fine : (freq : ℕ) (ps : List Pair) (place : Place) (text : List ℕ) → Fine (reads freq ps place text)
-reads-fine freq ps place [] = ended-fine freq ps place
-reads-fine freq ps place (b ∷ text) =
-    after-fine (λ qs q. reads freq qs q text) (step-fine freq ps place b) (λ qs q. reads-fine freq qs q text)
+reads-fine : (freq : ℕ) (ps : List Pair) (reach : Reach) (text : List ℕ) → Fine (reads freq ps reach text)
+reads-fine freq ps reach [] = ended-fine freq ps reach
+reads-fine freq ps reach (b ∷ text) =
+    after-fine (λ qs q. reads freq qs q text) (stride-fine freq ps reach b) (λ qs q. reads-fine freq qs q text)
 
 fault-of : {r : Reading} → Fine r → (n : ℕ) → r .fault ≡ some n → oneOf faultsOfCode n ≡ true
 fault-of (has {n = k} f) n e = let g : k ≡ n = cc in rw g at f
@@ -126,17 +127,18 @@ module _ (log : List Deed) (connection room : ℕ) (s : List ℕ) where
   seventeen = errs (nowhere refl)
 
   -- what is left to show behind the address
-  address-fits : (least most : ℕ) {T : Type 0} → (within least most m ≡ true → within 1 3 p ≡ true → T)
+  address-fits : (least most : ℕ) {T : Type 0} → (within least most m ≡ true → within 1 (portsOf (number m)) p ≡ true → T)
       → (not (isAddress (field 1)) ≡ true → Fits call (no 17))
       × (not (isAddress (field 1)) ≡ false
       → (not (within least most m) ≡ true → Fits call (no 2))
-      × (not (within least most m) ≡ false → (not (within 1 3 p) ≡ true → Fits call (no 3)) × (not (within 1 3 p) ≡ false → T)))
+      × (not (within least most m) ≡ false
+      → (not (within 1 (portsOf (number m)) p) ≡ true → Fits call (no 3)) × (not (within 1 (portsOf (number m)) p) ≡ false → T)))
   address-fits least most f =
       (λ e. seventeen, λ e. (λ e. errs (nowhere refl), λ em. (λ e. errs (nowhere refl), λ ep. f (not-false _ em) (not-false _ ep))))
 
-  wrong-fits : {n : ℕ} → number m ≡ 1 → within 1 3 p ≡ true → oneOf addressed n ≡ true → Fits call (table.wrong log connection s n)
+  wrong-fits : {n : ℕ} → number m ≡ 1 → within 1 (portsOf (number m)) p ≡ true → oneOf addressed n ≡ true → Fits call (table.wrong log connection s n)
   wrong-fits {n} em ep e =
-      let l : Listed call n (number m) (number p) = rw em (connector e (em, refl) (within-between 1 3 p ep)) in
+      let l : Listed call n (number m) (number p) = rw em (connector e (em, refl) (within-between 1 connectors p (rw em at ep))) in
       errs l
 
   at-one : within 1 1 m ≡ true → number m ≡ 1
@@ -178,10 +180,10 @@ module _ (log : List Deed) (connection room : ℕ) (s : List ℕ) where
         each = address-fits 2 2 (λ em ep. (λ e. relay-fits em ep, λ e. (λ e. seventeen, λ e. answers refl)));
       }
     where
-      relay-fits : within 2 2 m ≡ true → within 1 3 p ≡ true → Fits call (table.wrong log connection s 23)
+      relay-fits : within 2 2 m ≡ true → within 1 (portsOf (number m)) p ≡ true → Fits call (table.wrong log connection s 23)
       relay-fits em ep =
           let two = only 2 (number m) (within-between 2 2 m em) in
-          let l : Listed call 23 (number m) (number p) = rw two (relay (two, refl) (within-between 1 3 p ep)) in
+          let l : Listed call 23 (number m) (number p) = rw two (relay (two, refl) (within-between 1 relays p (rw two at ep))) in
           errs l
 
   getstate-fits : Fitting call (table.getstate log connection s)
@@ -352,8 +354,8 @@ small-number {n = n} l = ltb-true n 1000 (one-of-all (λ x. ltb x 1000) (unaddre
 
 small-address : {call : Call} {n m p : ℕ} → Listed call n m p → (m < 10) × (p < 10)
 small-address (nowhere e) = (omega arith, omega arith)
-small-address (connector {p = p} e asks port) = (omega arith, omega (arith, leb-true p 3 (and-right (leb 1 p) _ port)))
-small-address (relay {p = p} asks port) = (omega arith, omega (arith, leb-true p 3 (and-right (leb 1 p) _ port)))
+small-address (connector {p = p} e asks port) = (omega arith, omega (arith, between-most 1 connectors p port))
+small-address (relay {p = p} asks port) = (omega arith, omega (arith, between-most 1 relays p port))
 
 pub error-tells : {one other : Call} {n m p k l q : ℕ} → Listed one n m p → Listed other k l q
     → answerOf (error n m p) ≡ answerOf (error k l q) → (n ≡ k) × (m ≡ l) × (p ≡ q)

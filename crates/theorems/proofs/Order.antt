@@ -1,21 +1,23 @@
--- A wait's completions are in their order, none is lost and none is doubled, and they are at most three.
+-- A wait's completions are in their order, none is lost and none is doubled, and they are no more than there are connectors.
 use Prim.Native.Nat.{ℕ, suc, _+_, _-_, _≤_, _<_}
 use mathlib.Core.Path.{_≡_, refl, sym, ap, _∙_, subst}
 use mathlib.Core.Bool.{Bool, true, false, cond, not}
-use mathlib.Core.List.{List, [], _∷_, _++_, Perm, Perm·refl, Perm·cons, Perm·swap, Perm·trans}
+use mathlib.Core.List.{List, [], _∷_, Perm, Perm·refl, Perm·cons, Perm·swap, Perm·trans}
 use mathlib.Core.Option.{Option, none, some}
 use native.Mathlib.Omega.{arith}
 use borrow.Author.Tests.{ltb-true, ltb-false, leb-true, leb-false, le-leb, eqb-true, ne-eqb}
 use lib.Dec.{ltb, eqb}
-use lib.ListN.{length, length-append}
+use lib.ListN.{length}
 use Rattle.laws.specs.Checks.{between, isSome}
-use Rattle.laws.specs.Lists.{all}
+use Rattle.laws.specs.Lists.{all, gathered}
 use Rattle.laws.proofs.Choice.{cond-case, by-test, and-left, and-right, and-true}
-use Rattle.laws.proofs.Lists.{all-append}
+use Rattle.laws.proofs.Slots.{up-length, gathered-few}
+use Rattle.words.specs.Places.{connectors, ports}
 use Rattle.meaning.specs.Time.{Transmission, complete, finish}
 use Rattle.meaning.specs.Log.{Deed, now, lastOf, ownerOf, onAir}
 use Rattle.meaning.specs.Table.{Completion, dueOf, due, inserted, ordered, completions, Call, logOf}
 use Rattle.theorems.specs.Order.{Sorted, atMoment}
+use Rattle.theorems.proofs.Ports.{all-gathered}
 use Rattle.theorems.proofs.Times.{Begun, begun-later, complete-is, BegunBy, last-begun, on-air-is}
 
 -- ---- sorted by moment
@@ -86,15 +88,15 @@ ordered-length (x ∷ l) = inserted-length x (ordered l) ∙ ap suc (ordered-len
 module _ (n : ℕ) (log : List Deed) where
   -- moments never fall
   pub completions-sorted : Sorted (completions n log)
-  completions-sorted = ordered-sorted (due n log 1 ++ due n log 2 ++ due n log 3)
+  completions-sorted = ordered-sorted (gathered (due n log) ports)
 
-  -- the completions are what is due of the three connectors, each once
-  pub completions-same : Perm (completions n log) (due n log 1 ++ due n log 2 ++ due n log 3)
-  completions-same = ordered-same (due n log 1 ++ due n log 2 ++ due n log 3)
+  -- the completions are what is due of the connectors, each once
+  pub completions-same : Perm (completions n log) (gathered (due n log) ports)
+  completions-same = ordered-same (gathered (due n log) ports)
 
   -- "then by port": at one moment they stand in the order of their ports
-  pub then-by-port : (t : ℕ) → atMoment t (completions n log) ≡ atMoment t (due n log 1 ++ due n log 2 ++ due n log 3)
-  then-by-port t = at-ordered t (due n log 1 ++ due n log 2 ++ due n log 3)
+  pub then-by-port : (t : ℕ) → atMoment t (completions n log) ≡ atMoment t (gathered (due n log) ports)
+  then-by-port t = at-ordered t (gathered (due n log) ports)
 
   -- of a connector at most one
   pub due-at-most-one : (p : ℕ) → length (due n log p) ≤ 1
@@ -104,18 +106,11 @@ module _ (n : ℕ) (log : List Deed) where
       go none = omega arith
       go (some s) = cond-case (λ (l : List Completion). length l ≤ 1) (complete s _) _ [] (λ e. omega arith) (λ e. omega arith)
 
-  -- "A wait returns up to three completions"
-  pub at-most-three : length (completions n log) ≤ 3
+  -- "A wait returns up to three completions": no more than there are connectors
+  pub at-most-three : length (completions n log) ≤ connectors
   at-most-three =
-      rw (ordered-length (due n log 1 ++ due n log 2 ++ due n log 3))
-      (omega (
-        arith,
-        length-append (due n log 1 ++ due n log 2) (due n log 3),
-        length-append (due n log 1) (due n log 2),
-        due-at-most-one 1,
-        due-at-most-one 2,
-        due-at-most-one 3,
-      ))
+      rw (ordered-length (gathered (due n log) ports))
+      (omega (arith, gathered-few (due n log) due-at-most-one ports, up-length 1 connectors))
 
 -- ---- within the wait
 module _ (test : Completion → Bool) where
@@ -157,9 +152,7 @@ module _ (h : List Call) (n : ℕ) where
   -- after every history each completion is at a moment behind the wait's start and not behind its end
   pub moments-within : all (λ x. between 1 n (x .moment)) (completions n (logOf h)) ≡ true
   moments-within =
-      all-ordered inside (due n log 1 ++ due n log 2 ++ due n log 3)
-      (all-append inside (due n log 1 ++ due n log 2) (due n log 3)
-      (all-append inside (due n log 1) (due n log 2) (due-inside 1) (due-inside 2)) (due-inside 3))
+      all-ordered inside (gathered (due n log) ports) (all-gathered (due n log) inside due-inside ports)
 
 -- "One without an owner is listed without an addressee."
 pub unowned-unaddressed : (n : ℕ) (log : List Deed) (p : ℕ) → ownerOf p log ≡ none → all (λ x. not (isSome (x .owner))) (due n log p) ≡ true

@@ -16,10 +16,11 @@ use Rattle.laws.proofs.Choice.{by-test, not-both, and-left, and-right, and-true
 use Rattle.laws.proofs.Lists.{all-append, all-weaker}
 use Rattle.laws.proofs.Joining.{cut-next, cut-free, cut-joined, behind-joined, all-joined}
 use Rattle.words.specs.Digits.{isDigit, Spells}
+use Rattle.words.specs.Places.{connectors, relays, portsOf}
 use Rattle.words.specs.declared.Pair.{Pair}
 use Rattle.words.specs.declared.Fields.{Fields}
 use Rattle.text.proofs.Reading.{digit-range}
-use Rattle.meaning.specs.Line.{is, number, isNumber, within, isAddress, isCount, isLetter, Place, opening, on, due, off, spelling, Step, stop, go, step, Reading, faulty, sound, after, reads, codeIn}
+use Rattle.meaning.specs.Line.{is, number, isNumber, within, isAddress, isCount, isLetter, Reach, opening, on, offDue, off, spelling, Stride, stop, go, stride, Reading, faulty, sound, after, reads, codeIn}
 use Rattle.meaning.specs.Log.{Deed}
 use Rattle.meaning.specs.Table.{Judged, Row, line, judge, request, getdevices, getversion, set-IR, get-IR, setstate, getstate, sendir, stopir}
 use Rattle.theorems.proofs.Occasions.{within-between, only}
@@ -56,9 +57,9 @@ module _ (log : List Deed) (connection : ℕ) (s : List ℕ) (p : ℕ) (f : Fiel
       rw (
         x .address,
         x .infrared,
+        m-one,
         x .port,
         x .asked,
-        m-one,
         x .id,
         x .freq,
         x .repeat,
@@ -156,10 +157,10 @@ record IsAt (f : List ℕ) (m p : ℕ) : Type 0 where
   moduleIs : number (part 58 0 f) ≡ m
   portIs : number (part 58 1 f) ≡ p
   from : (least most : ℕ) → least ≤ m → m ≤ most → within least most (part 58 0 f) ≡ true
-  port : within 1 3 (part 58 1 f) ≡ true
+  port : within 1 (portsOf m) (part 58 1 f) ≡ true
   fair : plain f ≡ true
 
-is-at : {dm dp : List ℕ} {m p : ℕ} → Spells dm m → Spells dp p → 1 ≤ p → p ≤ 3 → IsAt (at dm dp) m p
+is-at : {dm dp : List ℕ} {m p : ℕ} → Spells dm m → Spells dp p → 1 ≤ p → p ≤ portsOf m → IsAt (at dm dp) m p
 unfolding isAddress
 is-at {dm} {dp} {m} {p} a b l h =
     let c = cut-joined 58 (dm ∷ []) dp (rw (digits-free a 58 (inr (omega arith)))) ∙ ap (λ (x : List (List ℕ)). dm ∷ x) (cut-free 58 dp (digits-free b 58 (inr (omega arith)))) in
@@ -168,7 +169,7 @@ is-at {dm} {dp} {m} {p} a b l h =
       moduleIs = rw c (a .value);
       portIs = rw c (b .value);
       from = λ least most g k. rw c (digits-within a least most g k);
-      port = rw c (digits-within b 1 3 l h);
+      port = rw c (digits-within b 1 (portsOf m) l h);
       fair =
           plain-of (at dm dp)
           (all-append (λ b. not (eqb b 44)) dm (58 ∷ dp) (digits-free a 44 (inl (omega arith))) (digits-free b 44 (inl (omega arith))))
@@ -204,11 +205,11 @@ module _ (log : List Deed) (connection : ℕ) (s : List ℕ) where
     set-IR-row : {mode : List ℕ} → IsAt f 1 p → Worded p mode → cut 44 s ≡ bytes "set_IR" ∷ f ∷ mode ∷ [] → asked log connection s ≡ modeSet log p mode
     unfolding request set-IR
     set-IR-row a w e =
-        rw (e, a .whole, a .from 1 1 (omega arith) (omega arith), a .port, a .moduleIs, a .portIs, w .listed, w .allowed)
+        rw (e, a .whole, a .from 1 1 (omega arith) (omega arith), a .moduleIs, a .port, a .portIs, w .listed, w .allowed)
 
     get-IR-row : IsAt f 1 p → cut 44 s ≡ bytes "get_IR" ∷ f ∷ [] → asked log connection s ≡ modeTold log p
     unfolding request get-IR
-    get-IR-row a e = rw (e, a .whole, a .from 1 1 (omega arith) (omega arith), a .port, a .portIs)
+    get-IR-row a e = rw (e, a .whole, a .from 1 1 (omega arith) (omega arith), a .moduleIs, a .port, a .portIs)
 
     setstate-row : {ds : List ℕ} {state : ℕ} → IsAt f 2 p → Spells ds state → state ≤ 1 → cut 44 s ≡ bytes "setstate" ∷ f ∷ ds ∷ []
         → asked log connection s ≡ relaySet p state
@@ -218,6 +219,7 @@ module _ (log : List Deed) (connection : ℕ) (s : List ℕ) where
           e,
           a .whole,
           a .from 2 2 (omega arith) (omega arith),
+          a .moduleIs,
           a .port,
           a .portIs,
           digits-within d 0 1 (omega arith) l,
@@ -227,17 +229,17 @@ module _ (log : List Deed) (connection : ℕ) (s : List ℕ) where
     getstate-relay-row : IsAt f 2 p → cut 44 s ≡ bytes "getstate" ∷ f ∷ [] → asked log connection s ≡ relayTold log p
     unfolding request getstate
     getstate-relay-row a e =
-        rw (e, a .whole, a .from 1 2 (omega arith) (omega arith), a .port, a .portIs, a .moduleIs)
+        rw (e, a .whole, a .from 1 2 (omega arith) (omega arith), a .moduleIs, a .port, a .portIs)
 
     getstate-contact-row : IsAt f 1 p → cut 44 s ≡ bytes "getstate" ∷ f ∷ [] → asked log connection s ≡ contactTold log p
     unfolding request getstate
     getstate-contact-row a e =
-        rw (e, a .whole, a .from 1 2 (omega arith) (omega arith), a .port, a .portIs, a .moduleIs)
+        rw (e, a .whole, a .from 1 2 (omega arith) (omega arith), a .moduleIs, a .port, a .portIs)
 
     stopir-row : IsAt f 1 p → cut 44 s ≡ bytes "stopir" ∷ f ∷ [] → asked log connection s ≡ stopped log connection p
     unfolding request stopir
     stopir-row a e =
-        rw (e, a .whole, a .from 1 1 (omega arith) (omega arith), a .port, a .portIs, a .moduleIs)
+        rw (e, a .whole, a .from 1 1 (omega arith) (omega arith), a .moduleIs, a .port, a .portIs)
 
 module _ (log : List Deed) (connection room : ℕ) (h : Heard connection room) where
   -- getdevices, getversion
@@ -249,7 +251,7 @@ module _ (log : List Deed) (connection room : ℕ) (h : Heard connection room) w
   getversion-spelled =
       spelled log connection room h (bytes "getversion") [] versionTold refl (omega arith) (λ s e. getversion-row log connection s e)
 
-  module _ {dm dp : List ℕ} {p : ℕ} (port : Spells dp p) (least : 1 ≤ p) (most : p ≤ 3) where
+  module _ {dm dp : List ℕ} {p : ℕ} (port : Spells dp p) (least : 1 ≤ p) (most : p ≤ connectors) where
     -- set_IR,1:p,mode
     pub set-IR-spelled : {mode : List ℕ} → Spells dm 1 → ModeWord p mode
         → judge log (line connection room (fields (bytes "set_IR" ∷ at dm dp ∷ mode ∷ []))) ≡ modeSet log p mode
@@ -264,22 +266,6 @@ module _ (log : List Deed) (connection room : ℕ) (h : Heard connection room) w
         let a = is-at one port least most in
         spelled log connection room h (bytes "get_IR") (at dm dp ∷ []) (modeTold log p) (rw (a .fair)) (omega arith)
         (λ s e. get-IR-row log connection s a e)
-
-    -- setstate,2:p,s
-    pub setstate-spelled : {ds : List ℕ} {state : ℕ} → Spells dm 2 → Spells ds state → state ≤ 1
-        → judge log (line connection room (fields (bytes "setstate" ∷ at dm dp ∷ ds ∷ []))) ≡ relaySet p state
-    setstate-spelled {ds} {state} two d l =
-        let a = is-at two port least most in
-        spelled log connection room h (bytes "setstate") (at dm dp ∷ ds ∷ []) (relaySet p state) (rw (a .fair, digits-plain d))
-        (omega arith) (λ s e. setstate-row log connection s a d l e)
-
-    -- getstate,2:p
-    pub getstate-relay-spelled : Spells dm 2
-        → judge log (line connection room (fields (bytes "getstate" ∷ at dm dp ∷ []))) ≡ relayTold log p
-    getstate-relay-spelled two =
-        let a = is-at two port least most in
-        spelled log connection room h (bytes "getstate") (at dm dp ∷ []) (relayTold log p) (rw (a .fair)) (omega arith)
-        (λ s e. getstate-relay-row log connection s a e)
 
     -- getstate,1:p
     pub getstate-contact-spelled : Spells dm 1
@@ -296,6 +282,23 @@ module _ (log : List Deed) (connection room : ℕ) (h : Heard connection room) w
         let a = is-at one port least most in
         spelled log connection room h (bytes "stopir") (at dm dp ∷ []) (stopped log connection p) (rw (a .fair)) (omega arith)
         (λ s e. stopir-row log connection s a e)
+
+  module _ {dm dp : List ℕ} {p : ℕ} (port : Spells dp p) (least : 1 ≤ p) (most : p ≤ relays) where
+    -- setstate,2:p,s
+    pub setstate-spelled : {ds : List ℕ} {state : ℕ} → Spells dm 2 → Spells ds state → state ≤ 1
+        → judge log (line connection room (fields (bytes "setstate" ∷ at dm dp ∷ ds ∷ []))) ≡ relaySet p state
+    setstate-spelled {ds} {state} two d l =
+        let a = is-at two port least most in
+        spelled log connection room h (bytes "setstate") (at dm dp ∷ ds ∷ []) (relaySet p state) (rw (a .fair, digits-plain d))
+        (omega arith) (λ s e. setstate-row log connection s a d l e)
+
+    -- getstate,2:p
+    pub getstate-relay-spelled : Spells dm 2
+        → judge log (line connection room (fields (bytes "getstate" ∷ at dm dp ∷ []))) ≡ relayTold log p
+    getstate-relay-spelled two =
+        let a = is-at two port least most in
+        spelled log connection room h (bytes "getstate") (at dm dp ∷ []) (relayTold log p) (rw (a .fair)) (omega arith)
+        (λ s e. getstate-relay-row log connection s a e)
 
 -- ---- a code that is read without a fault is printable
 not-when : (t u : Bool) → (t ≡ true → u ≡ true) → u ≡ false → t ≡ false
@@ -319,12 +322,12 @@ module _ (b : ℕ) (e : between 32 126 b ≡ false) where
   no-comma : eqb b 44 ≡ false
   no-comma = not-when (eqb b 44) (between 32 126 b) (λ d. rw (eqb-true b 44 d)) e
 
-  step-stops : (freq : ℕ) (ps : List Pair) (place : Place) → step freq ps place b ≡ stop 9
-  step-stops freq ps opening = rw (no-letter, no-digit)
-  step-stops freq ps (on ds) = by-test (isCount freq ds) (λ t. rw (no-digit, t, no-letter, no-comma)) (λ t. rw (no-digit, t))
-  step-stops freq ps (due n) = rw (no-letter, no-digit)
-  step-stops freq ps (off n ds) = by-test (isCount freq ds) (λ t. rw (no-digit, t, no-letter, no-comma)) (λ t. rw (no-digit, t))
-  step-stops freq ps spelling = rw no-digit
+  stride-stops : (freq : ℕ) (ps : List Pair) (reach : Reach) → stride freq ps reach b ≡ stop 9
+  stride-stops freq ps opening = rw (no-letter, no-digit)
+  stride-stops freq ps (on ds) = by-test (isCount freq ds) (λ t. rw (no-digit, t, no-letter, no-comma)) (λ t. rw (no-digit, t))
+  stride-stops freq ps (offDue n) = rw (no-letter, no-digit)
+  stride-stops freq ps (off n ds) = by-test (isCount freq ds) (λ t. rw (no-digit, t, no-letter, no-comma)) (λ t. rw (no-digit, t))
+  stride-stops freq ps spelling = rw no-digit
 
 not-sound : {A : Type 0} {n : ℕ} {qs : List Pair} → faulty n ≡ sound qs → A
 not-sound {n = n} {qs = qs} e =
@@ -332,15 +335,15 @@ not-sound {n = n} {qs = qs} e =
     let z : _≡_ {A = ℕ} 0 1 = cc in
     absurd (omega arith)
 
-reads-printable : (s : List ℕ) (freq : ℕ) (ps : List Pair) (place : Place) (qs : List Pair) → reads freq ps place s ≡ sound qs
+reads-printable : (s : List ℕ) (freq : ℕ) (ps : List Pair) (reach : Reach) (qs : List Pair) → reads freq ps reach s ≡ sound qs
     → all (between 32 126) s ≡ true
-reads-printable [] freq ps place qs e = refl
-reads-printable (b ∷ s) freq ps place qs e =
+reads-printable [] freq ps reach qs e = refl
+reads-printable (b ∷ s) freq ps reach qs e =
     by-test (between 32 126 b)
-    (λ t. and-true _ _ t (further (step freq ps place b) (λ rs q f. reads-printable s freq rs q qs f) e))
-    (λ t. not-sound (rw (step-stops b t freq ps place) at e))
+    (λ t. and-true _ _ t (further (stride freq ps reach b) (λ rs q f. reads-printable s freq rs q qs f) e))
+    (λ t. not-sound (rw (stride-stops b t freq ps reach) at e))
   where
-    further : (x : Step) → ((rs : List Pair) (q : Place) → reads freq rs q s ≡ sound qs → all (between 32 126) s ≡ true)
+    further : (x : Stride) → ((rs : List Pair) (q : Reach) → reads freq rs q s ≡ sound qs → all (between 32 126) s ≡ true)
         → after x (λ rs q. reads freq rs q s) ≡ sound qs → all (between 32 126) s ≡ true
     further (stop n) next f = not-sound f
     further (go rs q) next f = next rs q f
@@ -378,7 +381,7 @@ module _ {p id freq repeat offset : ℕ} {ps : List Pair} {did dfreq drepeat dof
         inside = l .inside;
       }
 
-  pub sendir-spelled : {dm dp : List ℕ} (code : List ℕ) → Spells dm 1 → Spells dp p → 1 ≤ p → p ≤ 3 → codeIn freq code ≡ sound ps
+  pub sendir-spelled : {dm dp : List ℕ} (code : List ℕ) → Spells dm 1 → Spells dp p → 1 ≤ p → p ≤ connectors → codeIn freq code ≡ sound ps
       → length (fields (bytes "sendir" ∷ at dm dp ∷ did ∷ dfreq ∷ drepeat ∷ doffset ∷ code ∷ [])) ≤ 4096
       → IsSendir (fields (bytes "sendir" ∷ at dm dp ∷ did ∷ dfreq ∷ drepeat ∷ doffset ∷ code ∷ [])) p (command id freq repeat offset) ps
   sendir-spelled {dm} {dp} code one port least most c short =

@@ -8,6 +8,7 @@ use lib.ListN.{length}
 use Rattle.laws.specs.Bytes.{bytes}
 use Rattle.laws.specs.Checks.{between}
 use Rattle.laws.specs.Lists.{all, cut, part}
+use Rattle.words.specs.Places.{portsOf}
 use Rattle.meaning.specs.Line.{number, within, isAddress}
 use Rattle.meaning.specs.Log.{Deed, passed, setting, switched, event, felt}
 use Rattle.meaning.specs.Table.{Call, reading, judge, deedsOf, logOf}
@@ -21,8 +22,8 @@ pub record AsksState (m p connection room : ℕ) (s : List ℕ) : Type 0 where
   pub name : part 44 0 s ≡ bytes "getstate"
   pub address : isAddress (part 44 1 s) ≡ true
   pub module-within : within 1 2 (part 58 0 (part 44 1 s)) ≡ true
-  pub port-within : within 1 3 (part 58 1 (part 44 1 s)) ≡ true
   pub module-is : number (part 58 0 (part 44 1 s)) ≡ m
+  pub port-within : within 1 (portsOf m) (part 58 1 (part 44 1 s)) ≡ true
   pub port-is : number (part 58 1 (part 44 1 s)) ≡ p
   pub ends : length (cut 44 s) ≤ 2
 

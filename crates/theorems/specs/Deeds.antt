@@ -12,15 +12,16 @@ use Rattle.laws.specs.Checks.{between}
 use Rattle.laws.specs.Lists.{all}
 use Rattle.words.specs.declared.Pair.{Pair}
 use Rattle.words.specs.declared.Fields.{Fields}
+use Rattle.words.specs.Places.{connectors, relays}
 use Rattle.meaning.specs.Line.{is}
 use Rattle.meaning.specs.Time.{Transmission}
 use Rattle.meaning.specs.Log.{Deed, passed, setting, switched, event, changed, felt, started, renewed, halted, left, modeOf, ownerOf, onAir}
 use Rattle.meaning.specs.Table.{Call, line, reading, closing, waiting}
 
--- "connectors 1 to 3", "relays 1 to 3"
-pub record Port (p : ℕ) : Type 0 where
+-- one of so many ports: "connectors 1 to 3", "relays 1 to 3"
+pub record Port (count p : ℕ) : Type 0 where
   pub least : 1 ≤ p
-  pub most : p ≤ 3
+  pub most : p ≤ count
 
 -- "modes IR, SENSOR, IR_BLASTER", the last on connector 3 alone
 pub data ModeWord (p : ℕ) (word : List ℕ) : Type 0 where
@@ -64,21 +65,21 @@ pub record LineOf (connection : ℕ) (call : Call) : Type 0 where
 pub data Did (log : List Deed) (call : Call) : List Deed → Type 0 where
   nothing : Did log call []
   -- a line gave connector p another mode, while it transmitted nothing
-  changes : (p connection : ℕ) (word : List ℕ) → LineOf connection call → Port p → ModeWord p word → (modeOf p log ≡ word → ⊥)
+  changes : (p connection : ℕ) (word : List ℕ) → LineOf connection call → Port connectors p → ModeWord p word → (modeOf p log ≡ word → ⊥)
       → onAir p log ≡ none → Did log call (setting p (changed word) ∷ [])
   -- contact p was read 0 or 1 in SENSOR
-  reads : (p value : ℕ) → call ≡ reading p value → Port p → inSensor p log ≡ true → value ≤ 1 → Did log call (setting p (felt value) ∷ [])
+  reads : (p value : ℕ) → call ≡ reading p value → Port connectors p → inSensor p log ≡ true → value ≤ 1 → Did log call (setting p (felt value) ∷ [])
   -- a line switched relay p to 0 or 1
-  switches : (p connection state : ℕ) → LineOf connection call → Port p → state ≤ 1 → Did log call (switched p state ∷ [])
+  switches : (p connection state : ℕ) → LineOf connection call → Port relays p → state ≤ 1 → Did log call (switched p state ∷ [])
   -- a line of this connection started a command within the limits on connector p, not in SENSOR, where nothing was on air or the
   -- connection itself owned it
-  starts : (p connection : ℕ) (f : Fields) (ps : List Pair) → LineOf connection call → Port p → inSensor p log ≡ false → Limits f ps
+  starts : (p connection : ℕ) (f : Fields) (ps : List Pair) → LineOf connection call → Port connectors p → inSensor p log ≡ false → Limits f ps
       → (onAir p log ≡ none) ⊎ (ownerOf p log ≡ some connection) → Did log call (event (started p connection f ps) ∷ [])
   -- a line of its owner renewed what connector p transmits
-  renews : (p connection : ℕ) (s : Transmission) → LineOf connection call → Port p → inSensor p log ≡ false → onAir p log ≡ some s
+  renews : (p connection : ℕ) (s : Transmission) → LineOf connection call → Port connectors p → inSensor p log ≡ false → onAir p log ≡ some s
       → ownerOf p log ≡ some connection → Did log call (event (renewed p) ∷ [])
   -- a line halted connector p, not in SENSOR
-  halts : (p connection : ℕ) → LineOf connection call → Port p → inSensor p log ≡ false → Did log call (event (halted p) ∷ [])
+  halts : (p connection : ℕ) → LineOf connection call → Port connectors p → inSensor p log ≡ false → Did log call (event (halted p) ∷ [])
   -- a connection was closed; a time passed
   leaves : (connection : ℕ) → call ≡ closing connection → connection ≤ 7 → Did log call (event (left connection) ∷ [])
   passes : (n : ℕ) → call ≡ waiting n → n ≤ 1000000000 → Did log call (passed n ∷ [])

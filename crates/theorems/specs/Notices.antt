@@ -4,7 +4,8 @@ use mathlib.Core.Path.{_≡_}
 use mathlib.Core.Bool.{Bool, true, false, cond, not}
 use mathlib.Core.List.{List, [], _∷_, _++_}
 use lib.Dec.{eqb}
-use lib.ListN.{take}
+use lib.ListN.{length, take}
+use Rattle.laws.specs.Bytes.{bytes}
 use Rattle.laws.specs.Lists.{all, same}
 use Rattle.words.specs.Decimal.{decimal}
 use Rattle.meaning.specs.Line as text
@@ -22,9 +23,9 @@ pub record Notice : Type 0 where
 abbrev pub noticeOf : ℕ → Transmission → Notice
 noticeOf p s = record { moment = finish s; words = text.line "completeir," 1 p (decimal (s .fields .id)) }
 
--- whether a completion's notice begins with `completeir,1:p`, 14 bytes for each of the three connectors
+-- whether a completion's notice begins with `completeir,1:p,`
 unfoldable pub isFor : ℕ → Completion → Bool
-isFor p x = same (addressed "completeir," 1 p) (take 14 (x .notice))
+isFor p x = let front = addressed "completeir," 1 p ++ bytes "," in same front (take (length front) (x .notice))
 
 -- those for connector p of a wait that began at t
 abbrev pub noticesIn : ℕ → ℕ → List Completion → List Notice

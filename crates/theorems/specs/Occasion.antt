@@ -6,6 +6,7 @@ use mathlib.Core.List.{List, [], _∷_}
 use lib.Dec.{eqb}
 use Rattle.laws.specs.Checks.{between, oneOf}
 use Rattle.laws.specs.Lists.{part}
+use Rattle.words.specs.Places.{connectors, relays}
 use Rattle.meaning.specs.Line.{number}
 use Rattle.meaning.specs.Table.{Answer, refused, taken, replied, Call, line, overlong, reading, closing, waiting}
 
@@ -36,8 +37,8 @@ AsksFor (waiting n) m p = ⊥
 -- a number of the table with its address: 0:0, a connector 1:p, or with 023 a relay 2:p
 pub data Listed (call : Call) : ℕ → ℕ → ℕ → Type 0 where
   nowhere : {n : ℕ} → oneOf unaddressed n ≡ true → Listed call n 0 0
-  connector : {n p : ℕ} → oneOf addressed n ≡ true → AsksFor call 1 p → between 1 3 p ≡ true → Listed call n 1 p
-  relay : {p : ℕ} → AsksFor call 2 p → between 1 3 p ≡ true → Listed call 23 2 p
+  connector : {n p : ℕ} → oneOf addressed n ≡ true → AsksFor call 1 p → between 1 connectors p ≡ true → Listed call n 1 p
+  relay : {p : ℕ} → AsksFor call 2 p → between 1 relays p ≡ true → Listed call 23 2 p
 
 -- a reply that begins with `E`
 abbrev pub saysError : Answer → Bool

@@ -10,6 +10,7 @@ use Rattle.laws.specs.Bytes.{bytes}
 use Rattle.laws.specs.Checks.{_⇒_, first, between, holds, isSome}
 use Rattle.laws.specs.Lists.{all, same, part, behind, joined}
 use Rattle.words.specs.Decimal.{decimal}
+use Rattle.words.specs.Places.{connectors}
 use Rattle.words.specs.declared.Pair.{Pair}
 use Rattle.words.specs.declared.Fields.{Fields}
 use Rattle.meaning.specs.Line as text
@@ -58,7 +59,7 @@ pub record IsSendir (s : List ℕ) (p : ℕ) (f : Fields) (ps : List Pair) : Typ
   pub name : part 44 0 s ≡ bytes "sendir"
   pub address : isAddress (part 44 1 s) ≡ true
   pub infrared : within 1 1 (part 58 0 (part 44 1 s)) ≡ true
-  pub port : within 1 3 (part 58 1 (part 44 1 s)) ≡ true
+  pub port : within 1 connectors (part 58 1 (part 44 1 s)) ≡ true
   pub asked : number (part 58 1 (part 44 1 s)) ≡ p
   pub id : within 0 65535 (part 44 2 s) ≡ true
   pub freq : within 15000 500000 (part 44 3 s) ≡ true

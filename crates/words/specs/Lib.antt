@@ -1,3 +1,4 @@
 pub mod Digits
 pub mod Decimal
 pub mod Pairs
+pub mod Places

@@ -19,12 +19,12 @@ use Rattle.words.specs.Pairs.{pair}
 use Rattle.code.specs.Letters.{has, learnt}
 use Rattle.code.specs.Accepted.{Accepted}
 use Rattle.code.specs.Next.{nextPair}
-use Rattle.code.specs.Read.{Reading, pairs, fault, onward, readFrom, readCode}
+use Rattle.code.specs.Read.{Reading, pairs, fault, readOn, readFrom, readCode}
 use Rattle.code.proofs.Nexts.{Ends, Sound, next-sound}
 
 abbrev Within : ℕ → Reading → Type 0
 Within freq (pairs ps) = Accepted freq ps
-Within freq (fault number) = Unit {0}
+Within freq (fault number ps) = Unit {0}
 
 -- behind a pair there is one
 abbrev Begun : After → ℕ → Type 0
@@ -73,7 +73,7 @@ module _ (freq : ℕ) (s : List ℕ) where
     where
       go : (x : Next) → Sound freq (length ps) (length letters) after x
           → ((ps′ letters′ : List Pair) (after′ : After) (at′ : ℕ) → Partly freq k ps′ letters′ after′ → Within freq (readFrom k freq s ps′ letters′ after′ at′))
-          → Within freq (onward (readFrom k freq s) ps letters x)
+          → Within freq (readOn (readFrom k freq s) ps letters x)
       go End h ih =
           record { some = begun after (length ps) h (q .some); most = omega (arith, q .count); allowed = q .allowed }
       go (Spelled on off next) h ih =

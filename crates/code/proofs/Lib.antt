@@ -1,6 +1,8 @@
 pub mod Smallest
 pub mod Lettering
 pub mod Nexts
-pub mod Filled
+pub mod Shorts
+pub mod Follows
 pub mod Reading
+pub mod Answers
 pub mod Accepted

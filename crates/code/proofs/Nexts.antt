@@ -1,7 +1,7 @@
 -- Laws of what stands next: there is room for a pair that is read, and a letter that is read has one.
 use Prim.Native.Nat.{ℕ, _+_, _-_, _≤_, _<_}
 use mathlib.Core.Path.{_≡_, refl}
-use mathlib.Core.Bool.{true}
+use mathlib.Core.Bool.{true, false}
 use mathlib.Core.List.{List}
 use lib.Dec.{ltb, leb, eqb}
 use lib.ListN.{length, getD}
@@ -103,3 +103,9 @@ next-sound freq n m after s at =
     cond-case (Sound freq n m after) (leb (length s) at) _ _ (λ e. end-sound freq n m after)
     (λ e. cond-case (Sound freq n m after) (isLetter (getD s at 0)) _ _
     (λ f. letter-sound freq n m after s (getD s at 0) (at + 1)) (λ f. begins-sound freq n m after s at))
+
+-- where no letter stands, it does not matter how many have a pair
+pub next-unlettered : (freq n m m′ : ℕ) (after : After) (s : List ℕ) (at : ℕ) → isLetter (getD s at 0) ≡ false
+    → nextPair freq n m after s at ≡ nextPair freq n m′ after s at
+unfolding nextPair
+next-unlettered freq n m m′ after s at e = rw e

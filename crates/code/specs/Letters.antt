@@ -47,4 +47,4 @@ learntLetters t p =
 
 pub record Learns (t : Letters) (p : Pair) (r : Letters) : Type 0 where
   pub result : r ≡ learntLetters t p
-  pub kept : Kept r (learnt (held t) p)
+  pub kept : t .count ≤ 15 → Kept r (learnt (held t) p)

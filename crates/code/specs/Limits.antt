@@ -30,6 +30,13 @@ mostOffset = 383
 unfoldable pub freqInRange : ℕ → Bool
 freqInRange freq = cond (ltb freq leastFreq) false (leb freq mostFreq)
 
+-- "1 to 260 pairs", and an on and an off count for each
+abbrev pub mostPairs : ℕ
+mostPairs = 260
+
+abbrev pub mostCounts : ℕ
+mostCounts = 2 * mostPairs
+
 -- "The offset is at most twice the number of pairs, less one."
 abbrev pub offsetWithin : ℕ → ℕ → Bool
 offsetWithin offset pairs = ltb offset (2 * pairs)

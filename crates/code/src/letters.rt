@@ -2,8 +2,6 @@
 use crate::Code;
 use words::Pair;
 ghost use mathlib.Core.Path.{_≡_};
-ghost use Prim.Native.Nat.{_≤_};
-ghost use lib.ListN.{length};
 ghost use Rattle.words.specs.Pairs.{samePair};
 ghost use Rattle.code.specs.Letters.{noLetters, placeOf, held, Learns};
 
@@ -31,13 +29,15 @@ pub fn same(p: Pair, q: Pair) -> bool
 
 // The place of a pair among those that have a letter, or their number where it has none.
 pub fn place_of(letters: Letters, p: Pair) -> usize
-    requires { ⌜ letters .count ≤ 15 ⌝ }
     ensures { λ r. ⌜ r ≡ placeOf p (held letters) ⌝ }
 {
     let count = letters.count;
     let pairs = letters.pairs;
     let mut j = 0;
     while j < count {
+        if Code::LETTERS <= j {
+            return j;
+        }
         let q = pairs[j];
         if same(q, p) {
             return j;
@@ -49,7 +49,6 @@ pub fn place_of(letters: Letters, p: Pair) -> usize
 
 // The letters after one pair more.
 pub fn learn(letters: Letters, p: Pair) -> Letters
-    requires { ⌜ letters .count ≤ 15 ⌝ }
     ensures { λ r. ⌜ Learns letters p r ⌝ }
 {
     let count = letters.count;

@@ -1,21 +1,15 @@
 // An infrared code: pairs of on and off counts of carrier periods, read from plain or lettered text.
 
-use words::Pair;
-
-// What a code's text is: so many pairs, or its first fault.
-pub enum CodeRead {
+// What a code's text is: so many pairs, or its first fault. The counts of the pairs stand in an array beside.
+pub enum Code {
     Fault(u64),
     Pairs(usize),
 }
 
-// A code that was read; its pairs stand in front, zeros behind them.
-pub struct Code {
-    pub read: CodeRead,
-    pub pairs: [Pair; Code::MOST_PAIRS],
-}
-
 impl Code {
     pub const MOST_PAIRS: usize = 260;
+    // An on and an off count for each pair.
+    pub const MOST_COUNTS: usize = 2 * Code::MOST_PAIRS;
 
     pub const LEAST_COUNT: u64 = 4;
 
@@ -41,4 +35,5 @@ impl Code {
 pub mod letters;
 pub mod limits;
 pub mod next;
+mod quick;
 pub mod read;

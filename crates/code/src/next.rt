@@ -104,7 +104,7 @@ fn spelled_at(freq: u64, pairs: usize, s: &[u8], at: usize) -> Next
 }
 
 // A pair that the letter b begins, behind so many, where so many letters have a pair.
-fn letter_at(pairs: usize, letters: usize, b: u8, next: usize) -> Next
+pub fn letter_at(pairs: usize, letters: usize, b: u8, next: usize) -> Next
     requires { ⌜ 65 ≤ b ⌝ }
     ensures { λ r. ⌜ r ≡ letterAt pairs letters b next ⌝ }
 {
@@ -151,15 +151,15 @@ pub fn next_pair(freq: u64, pairs: usize, letters: usize, after: After, s: &[u8]
     if is_letter(b) {
         return letter_at(pairs, letters, b, at + 1);
     }
-    match after {
-        After::Nothing => begun_at(freq, pairs, s, at),
+    let begin = match after {
+        After::Nothing => at,
         After::Spelling => {
-            if b == b',' {
-                begun_at(freq, pairs, s, at + 1)
-            } else {
-                Next::Fault(9)
+            if b != b',' {
+                return Next::Fault(9);
             }
+            at + 1
         }
-        After::Lettering => begun_at(freq, pairs, s, at),
-    }
+        After::Lettering => at,
+    };
+    begun_at(freq, pairs, s, begin)
 }

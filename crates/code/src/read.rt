@@ -1,55 +1,162 @@
 // A whole code.
 use crate::Code;
-use crate::CodeRead;
 use crate::letters::Letters;
 use crate::next::After;
 use crate::next::Next;
+use crate::quick::Quick;
 use words::Pair;
 ghost use mathlib.Core.Path.{_≡_};
-ghost use Rattle.code.specs.Read.{readCode, codeOf, fault};
+ghost use mathlib.Core.List.{List, [], _∷_};
+ghost use Prim.Native.Nat.{ℕ, _+_, _-_, _*_, _≤_, _<_};
+ghost use lib.ListN.{length};
+ghost use lib.Seq.{sets};
+ghost use Rattle.words.specs.declared.Pair.{Pair};
+ghost use Rattle.words.specs.Pairs.{countsOf};
+ghost use Rattle.code.specs.Letters.{lettersOf, held, Kept};
+ghost use Rattle.code.specs.declared.next.After.the-variants.{Spelling, Lettering};
+ghost use Rattle.code.specs.Read.{readCode, ReadInto};
+ghost use Rattle.code.specs.Follows.{Follows, pairsAt, lags};
 
-fn refused(number: u64) -> Code
-    ensures { λ r. ⌜ r ≡ codeOf (fault number) ⌝ }
+// How far a code is read: so many pairs, up to a place.
+pub struct Far {
+    pub count: usize,
+    pub at: usize,
+}
+
+// Stores a pair behind so many.
+fn put_pair(counts: &mut [u16], count: usize, p: Pair)
+    requires { ⌜ 2 * count + 1 < length (now counts) ⌝ }
+    ensures { λ _. ⌜ now (counts .exit) ≡ sets (now (counts .entry)) (2 * count) (countsOf (p ∷ [])) ⌝ }
 {
-    Code {
-        read: CodeRead::Fault(number),
-        pairs: [Pair { on: 0, off: 0 }; Code::MOST_PAIRS],
+    let at = 2 * count;
+    counts[at] = p.on;
+    counts[at + 1] = p.off;
+}
+
+// The letters after the pairs from one to before another.
+fn learn_all(letters: Letters, counts: &[u16], from: usize, to: usize) -> Letters
+    requires { ⌜ (letters .count ≤ 15) × (2 * to ≤ length (now counts)) ⌝ }
+    ensures { λ r. ⌜ Kept r (lettersOf (held letters) (pairsAt (now (counts .entry)) from (to - from))) ⌝ }
+{
+    let mut known = letters;
+    let mut i = from;
+    while i < to {
+        let at = 2 * i;
+        let p = Pair {
+            on: counts[at],
+            off: counts[at + 1],
+        };
+        known = crate::letters::learn(known, p);
+        i += 1;
+    }
+    known
+}
+
+// Reads on behind a letter, as long as there are letters that have a pair.
+fn letter_run(
+    letters: Letters,
+    s: &[u8],
+    count: usize,
+    at: usize,
+    counts: &mut [u16; Code::MOST_COUNTS],
+) -> Far
+    requires { ⌜ letters .count ≤ 15 ⌝ }
+    ensures { λ r. ⌜ ((freq : ℕ) → Follows freq (now (s .entry)) (held letters) (held letters) (now (counts .entry)) (now (counts .exit)) count at (r .count) (r .at)
+        Lettering Lettering) ⌝ }
+{
+    let known = letters.pairs;
+    let mut n = count;
+    let mut i = at;
+    while i < s.len() {
+        let b = s[i];
+        if !crate::next::is_letter(b) {
+            break;
+        }
+        let Next::Letter(j, next) = crate::next::letter_at(n, letters.count, b, i + 1) else {
+            break;
+        };
+        let p = known[j];
+        put_pair(counts, n, p);
+        n += 1;
+        i = next;
+    }
+    Far { count: n, at: i }
+}
+
+// Reads on behind a spelled pair, as long as the quick reader finds pairs.
+fn spelled_run(
+    freq: u64,
+    s: &[u8],
+    count: usize,
+    at: usize,
+    counts: &mut [u16; Code::MOST_COUNTS],
+) -> Far
+    ensures { λ r. ⌜ ((t : List Pair) → (t′ : List Pair) × Follows freq (now (s .entry)) t t′ (now (counts .entry)) (now (counts .exit)) count at (r .count) (r .at)
+        Spelling Spelling) ⌝ }
+{
+    let mut n = count;
+    let mut i = at;
+    while n < Code::MOST_PAIRS {
+        let Quick::Pair(on, off, next) = crate::quick::quick_at(freq, s, i) else {
+            break;
+        };
+        let p = Pair { on, off };
+        put_pair(counts, n, p);
+        n += 1;
+        i = next;
+    }
+    Far { count: n, at: i }
+}
+
+// Whether a letter stands at a place and some of so many pairs are not learnt yet.
+fn lags(s: &[u8], at: usize, seen: usize, count: usize) -> bool
+    ensures { λ r. ⌜ r ≡ lags (now (s .entry)) at seen count ⌝ }
+{
+    if crate::next::is_letter(text::field::byte_at(s, at)) {
+        seen < count
+    } else {
+        false
     }
 }
 
-// The code that begins at a place of a text and runs to its end.
-pub fn read_code(freq: u64, s: &[u8], start: usize) -> Code
-    ensures { λ r. ⌜ r ≡ codeOf (readCode freq (now (s .entry)) start) ⌝ }
+// The code that begins at a place of a text and runs to its end. A pair is learnt only when a letter comes behind it.
+pub fn read_code(freq: u64, s: &[u8], start: usize, counts: &mut [u16; Code::MOST_COUNTS]) -> Code
+    ensures { λ r. ⌜ ReadInto (readCode freq (now (s .entry)) start) (now (counts .entry)) r (now (counts .exit)) ⌝ }
 {
-    let mut pairs = [Pair { on: 0, off: 0 }; Code::MOST_PAIRS];
     let mut letters = Letters::none();
+    let mut seen: usize = 0;
     let mut count: usize = 0;
     let mut at = start;
     let mut after = After::Nothing;
     loop {
+        if lags(s, at, seen, count) {
+            letters = learn_all(letters, counts, seen, count);
+            seen = count;
+            continue;
+        }
         match crate::next::next_pair(freq, count, letters.count, after, s, at) {
             Next::End => {
-                return Code {
-                    read: CodeRead::Pairs(count),
-                    pairs,
-                };
+                return Code::Pairs(count);
             }
             Next::Fault(number) => {
-                return refused(number);
+                return Code::Fault(number);
             }
             Next::Spelled(on, off, next) => {
                 let p = Pair { on, off };
-                pairs[count] = p;
-                letters = crate::letters::learn(letters, p);
-                count += 1;
-                at = next;
+                put_pair(counts, count, p);
+                let far = spelled_run(freq, s, count + 1, next, counts);
+                count = far.count;
+                at = far.at;
                 after = After::Spelling;
             }
             Next::Letter(i, next) => {
                 let known = letters.pairs;
-                pairs[count] = known[i];
-                count += 1;
-                at = next;
+                let p = known[i];
+                put_pair(counts, count, p);
+                let far = letter_run(letters, s, count + 1, next, counts);
+                count = far.count;
+                seen = far.count;
+                at = far.at;
                 after = After::Lettering;
             }
         }

@@ -11,10 +11,11 @@ use Rattle.code.specs.declared.next.Next.the-variants.{End, Spelled, Letter, Fa
 use Rattle.code.specs.declared.next.After.{After}
 use Rattle.code.specs.declared.next.After.the-variants.{Nothing, Spelling, Lettering}
 use Rattle.words.specs.Pairs.{pair}
-use Rattle.code.specs.Read.{pairs, onward, readFrom, readCode}
+use Rattle.code.specs.Read.{pairs, readOn, readFrom, readCode}
 use Rattle.code.proofs.Accepted.{accepted}
 use Rattle.lettered.specs.Lettered.{lettered, Means}
-use Rattle.lettered.proofs.Learnt.{lettered-more, learnt-again}
+use Rattle.code.proofs.Lettering.{learnt-again}
+use Rattle.lettered.proofs.Learnt.{lettered-more}
 use Rattle.lettered.proofs.Written.{text-from}
 use Rattle.lettered.proofs.ItemsRead.{items-read}
 use Rattle.lettered.proofs.Parsed.{Parsed, none-parsed, nextBehind, sound, shown, spelled-parsed, letter-parsed}
@@ -54,7 +55,7 @@ module _ (freq : ℕ) (s : List ℕ) {ps : List Pair} where
       go : (x : Next) → nextBehind freq s before after at ≡ x
           → ((before : List Pair) (after : After) (at : ℕ) → readFrom k freq s before (lettered before) after at ≡ pairs ps
           → Whole freq s before after at ps)
-          → onward (readFrom k freq s) before (lettered before) x ≡ pairs ps → Whole freq s before after at ps
+          → readOn (readFrom k freq s) before (lettered before) x ≡ pairs ps → Whole freq s before after at ps
       go End h ih e =
           let all-are : before ≡ ps = cc in
           record {

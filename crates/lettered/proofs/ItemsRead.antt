@@ -25,7 +25,8 @@ use Rattle.code.specs.Next.{isLetter, countAt, offAt, afterOn, spelledAt, lette
 use Rattle.code.specs.Read.{pairs, readFrom}
 use Rattle.code.proofs.Nexts.{Ends}
 use Rattle.lettered.specs.Lettered.{Item, spelled, letter, itemText, lettered, Stands, Expands, none, more}
-use Rattle.lettered.proofs.Learnt.{lettered-few, lettered-more, learnt-again}
+use Rattle.code.proofs.Lettering.{learnt-again}
+use Rattle.lettered.proofs.Learnt.{lettered-few, lettered-more}
 use Rattle.lettered.proofs.Written.{afterOf, front, front-letter, textFrom, stops}
 
 pub digit-no-letter : (b : ℕ) → isDigit b ≡ true → isLetter b ≡ false

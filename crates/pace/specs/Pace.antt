@@ -2,6 +2,7 @@
 -- microseconds a transmission has done t × freq / 1,000,000 periods, an exact fraction. .. The transmission is complete at the
 -- first whole microsecond when the fraction reaches the total." In ticks, millionths of a period, all of these are whole numbers.
 use Prim.Native.Nat.{ℕ, suc, _+_, _-_, _*_, _/_, _%_, _≤_, _<_}
+use mathlib.Core.Path.{_≡_}
 use mathlib.Core.Bool.{cond}
 use mathlib.Core.List.{List, [], _∷_}
 use lib.Dec.{ltb, leb}
@@ -22,6 +23,11 @@ micros n = record { 0 = n }
 
 abbrev pub ticks : ℕ → Ticks
 ticks n = record { 0 = n }
+
+-- a count as a number of periods: a small one
+pub record WideCount (count r : ℕ) : Type 0 where
+  pub result : r ≡ count
+  pub small : r ≤ 65535
 
 -- what pairs last, in carrier periods
 abbrev pub periodsOf : List Pair → ℕ

@@ -1,11 +1,11 @@
 // Time on a connector: how far a transmission is and when it ends, exactly. A tick is a millionth of a carrier period: in one
 // microsecond as many ticks pass as the frequency has hertz, so that nothing is ever rounded.
 use code::Code;
-use words::Pair;
 ghost use mathlib.Core.Path.{_≡_};
-ghost use Prim.Native.Nat.{_≤_};
-ghost use lib.ListN.{take, drop};
-ghost use Rattle.pace.specs.Pace.{SoundPace, periodsOf, periods, micros, ticks, started, endOf, begun, renewed, placeOf, movedTo, passed};
+ghost use Prim.Native.Nat.{_-_, _*_, _≤_};
+ghost use Rattle.laws.specs.Lists.{numbers};
+ghost use Rattle.meaning.specs.Time.{lasts};
+ghost use Rattle.pace.specs.Pace.{SoundPace, WideCount, periods, micros, ticks, started, endOf, begun, renewed, placeOf, movedTo, passed};
 
 // A number of carrier periods.
 pub struct Periods(pub u64);
@@ -31,17 +31,23 @@ pub enum Passed {
     Complete(Micros),
 }
 
-// What the pairs from one to before another last.
-pub fn periods_of(pairs: [Pair; Code::MOST_PAIRS], from: usize, to: usize) -> Periods
-    requires { ⌜ (from ≤ to) × (to ≤ 260) ⌝ }
-    ensures { λ r. ⌜ r ≡ periods (periodsOf (drop from (take to pairs))) ⌝ }
+// A count as a number of periods.
+fn wide(count: u16) -> u64
+    ensures { λ r. ⌜ WideCount count r ⌝ }
 {
+    count as u64
+}
+
+// What the pairs from one to before another last.
+pub fn periods_of(counts: &[u16; Code::MOST_COUNTS], from: usize, to: usize) -> Periods
+    requires { ⌜ (from ≤ to) × (to ≤ 260) ⌝ }
+    ensures { λ r. ⌜ r ≡ periods (lasts (numbers (now (counts .entry)) (2 * from) (2 * (to - from)))) ⌝ }
+{
+    let end = 2 * to;
     let mut sum: u64 = 0;
-    let mut i = from;
-    while i < to {
-        let p = pairs[i];
-        sum += p.on as u64;
-        sum += p.off as u64;
+    let mut i = 2 * from;
+    while i < end {
+        sum += wide(counts[i]);
         i += 1;
     }
     Periods(sum)

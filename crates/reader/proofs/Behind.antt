@@ -11,7 +11,8 @@ use Rattle.code.specs.declared.next.After.the-variants.{Spelling, Lettering}
 use Rattle.words.specs.Pairs.{pair}
 use Rattle.code.specs.Letters.{learnt, Kept, learntLetters}
 use Rattle.lettered.specs.Lettered.{lettered}
-use Rattle.lettered.proofs.Learnt.{lettered-more, learnt-again}
+use Rattle.code.proofs.Lettering.{learnt-again}
+use Rattle.lettered.proofs.Learnt.{lettered-more}
 use Rattle.lettered.proofs.Parsed.{nextBehind}
 use Rattle.reader.specs.declared.Progress.{Progress}
 use Rattle.reader.specs.Hands.{freshProgress, onePairOn}

@@ -1,17 +1,16 @@
 -- Laws of one piece: what stands next decides it, and the letters are kept.
 use Prim.Native.Nat.{ℕ, _+_, _≤_, _<_}
 use mathlib.Core.Path.{_≡_, refl, ap, _∙_, subst}
-use mathlib.Core.List.{List, [], _∷_}
+use mathlib.Core.List.{List}
 use native.Mathlib.Omega.{arith}
-use borrow.Author.Tests.{lt-ltb, ltb-true, ltb-false}
+use borrow.Author.Tests.{ltb-true, ltb-false}
 use lib.Dec.{ltb}
-use lib.ListN.{length, length-take, length-set}
-use Rattle.laws.proofs.Choice.{by-test, cond-case}
+use lib.ListN.{length, length-set}
+use Rattle.laws.proofs.Choice.{cond-case}
 use Rattle.words.specs.declared.Pair.{Pair}
 use Rattle.code.specs.declared.letters.Letters.{Letters}
 use Rattle.code.specs.declared.next.Next.{Next}
 use Rattle.code.specs.declared.next.Next.the-variants.{End, Spelled, Letter, Fault}
-use Rattle.words.specs.Pairs.{samePair}
 use Rattle.code.specs.Letters.{placeOf, learnt, held, Kept, learntLetters}
 use Rattle.code.specs.Next.{nextPair}
 use Rattle.code.proofs.Lettering.{learn-known, learn-full, learn-new}
@@ -36,18 +35,6 @@ module _ (t : Progress) (s : List ℕ) (at : ℕ) {x : Next} (e : standing t s a
   handed-is = ap (handedOf t at) e
 
 -- ---- the letters
-place-most : (p : Pair) (l : List Pair) → placeOf p l ≤ length l
-place-most p [] = omega arith
-place-most p (q ∷ l) =
-    by-test (samePair q p) (λ e. rw e (omega arith)) (λ e. rw e (omega (arith, place-most p l)))
-
--- where more are counted than there are, they stay
-pub learnt-over : (t : Letters) (p : Pair) → length (t .pairs) ≡ 15 → 15 < t .count → learntLetters t p ≡ t
-unfolding learntLetters
-learnt-over t p long h =
-    let most : length (held t) ≤ 15 = rw length-take (omega arith) in
-    rw (lt-ltb (placeOf p (held t)) (t .count) (omega (arith, place-most p (held t))))
-
 module _ (t : Letters) (p : Pair) (few : t .count ≤ 15) (long : length (t .pairs) ≡ 15) where
   pub learnt-kept : Kept (learntLetters t p) (learnt (held t) p)
   unfolding learntLetters

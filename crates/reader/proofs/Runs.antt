@@ -10,7 +10,7 @@ use Rattle.code.specs.declared.next.Next.{Next}
 use Rattle.code.specs.declared.next.Next.the-variants.{End, Spelled, Letter, Fault}
 use Rattle.code.specs.declared.next.After.{After}
 use Rattle.words.specs.Pairs.{pair}
-use Rattle.code.specs.Read.{Reading, pairs, fault, onward, readFrom, readCode}
+use Rattle.code.specs.Read.{Reading, pairs, fault, readOn, readFrom, readCode}
 use Rattle.lettered.specs.Lettered.{lettered}
 use Rattle.lettered.proofs.Learnt.{lettered-more}
 use Rattle.reader.specs.declared.Progress.{Progress}
@@ -47,8 +47,8 @@ module _ (s : List ℕ) where
 
   -- one turn of the definition
   turn : (k : ℕ) {t : Progress} (ps : List Pair) (at : ℕ) {x : Next} → Behind t ps → standing t s at ≡ x
-      → readFrom (suc k) (t .freq) s ps (lettered ps) (t .after) at ≡ onward (readFrom k (t .freq) s) ps (lettered ps) x
-  turn k {t} ps at b e = ap (onward (readFrom k (t .freq) s) ps (lettered ps)) (next-is b s at e)
+      → readFrom (suc k) (t .freq) s ps (lettered ps) (t .after) at ≡ readOn (readFrom k (t .freq) s) ps (lettered ps) x
+  turn k {t} ps at b e = ap (readOn (readFrom k (t .freq) s) ps (lettered ps)) (next-is b s at e)
 
   from : (k : ℕ) (t : Progress) (ps : List Pair) (at : ℕ) → Behind t ps → length ps + k ≡ 261 → length ps ≤ 260
       → Ran s t at ps (readFrom k (t .freq) s ps (lettered ps) (t .after) at)
@@ -120,11 +120,13 @@ module _ (freq : ℕ) (s : List ℕ) (at : ℕ) where
       go (faulted number) r k = let z : _≡_ {A = ℕ} 0 1 = cc in absurd (omega arith)
 
   -- the very fault, behind the pairs before it
-  pub hands-fault : (number : ℕ) → readCode freq s at ≡ fault number
-      → (ps : List Pair) × HandsOut s (freshProgress freq) at ps (faulted number)
-  hands-fault number e = go (ran .ending) (ran .run) (ran .reads)
+  pub hands-fault : (number : ℕ) (ps : List Pair) → readCode freq s at ≡ fault number ps
+      → HandsOut s (freshProgress freq) at ps (faulted number)
+  hands-fault number ps e = go (ran .ending) (ran .run) (ran .reads)
     where
-      go : (f : Ending) → Hands (ran .given) f → readCode freq s at ≡ readingOf (ran .given) f
-          → (ps : List Pair) × Hands ps (faulted number)
+      go : (f : Ending) → Hands (ran .given) f → readCode freq s at ≡ readingOf (ran .given) f → Hands ps (faulted number)
       go end r k = let z : _≡_ {A = ℕ} 0 1 = cc in absurd (omega arith)
-      go (faulted n) r k = let m : n ≡ number = cc in (ran .given, subst (λ (j : ℕ). Hands (ran .given) (faulted j)) m r)
+      go (faulted n) r k =
+          let m : n ≡ number = cc in
+          let l : ran .given ≡ ps = cc in
+          subst (λ (j : ℕ). Hands ps (faulted j)) m (subst (λ (qs : List Pair). Hands qs (faulted n)) l r)

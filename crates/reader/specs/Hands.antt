@@ -71,4 +71,4 @@ pub data HandsOut (s : List ℕ) : Progress → ℕ → List Pair → Ending →
 -- what such a run says the whole code is
 abbrev pub readingOf : List Pair → Ending → Reading
 readingOf ps end = pairs ps
-readingOf ps (faulted number) = fault number
+readingOf ps (faulted number) = fault number ps

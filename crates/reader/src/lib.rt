@@ -8,7 +8,6 @@ ghost use mathlib.Core.Path.{_≡_};
 ghost use Prim.Native.Nat.{_<_};
 ghost use lib.ListN.{getD};
 ghost use Rattle.words.specs.Pairs.{pair};
-ghost use Rattle.code.specs.Letters.{learntLetters};
 ghost use Rattle.reader.specs.Hands.{textAt, movedTo, freshProgress, pairHanded, handed, handedBy};
 
 pub struct CodeText<'a> {
@@ -82,17 +81,6 @@ fn pair_of(letters: Letters, i: usize) -> Pair
     }
 }
 
-// The letters after one pair more; where a progress from elsewhere counts more than there are, they stay.
-fn learn(letters: Letters, p: Pair) -> Letters
-    ensures { λ r. ⌜ r ≡ learntLetters letters p ⌝ }
-{
-    if letters.count <= Code::LETTERS {
-        code::letters::learn(letters, p)
-    } else {
-        letters
-    }
-}
-
 // What is handed out at a place of a text; the end and a fault leave the place and the progress as they are.
 fn next_from(progress: Progress, text: &[u8], at: usize) -> Handed
     ensures { λ r. ⌜ r ≡ handed progress (now (text .entry)) at ⌝ }
@@ -119,7 +107,7 @@ fn next_from(progress: Progress, text: &[u8], at: usize) -> Handed
         },
         Next::Spelled(on, off, next) => {
             let p = Pair { on, off };
-            let learnt = learn(letters, p);
+            let learnt = code::letters::learn(letters, p);
             pair_handed(progress, p, learnt, After::Spelling, next)
         }
         Next::Letter(i, next) => {

@@ -1,45 +1,38 @@
-// The pairs of what the connectors transmit, all in one lent array: 520 numbers for each connector, on and off counts in turn. What
-// stands in a slot behind the pairs that are being sent, or in the slot of an idle connector, means nothing.
+// The pairs that a connector transmits, in lent memory of its own, on and off counts in turn. What stands behind the pairs that are being
+// sent, or in the memory of an idle connector, means nothing.
 use code::Code;
-use words::Pair;
 ghost use mathlib.Core.Path.{_≡_};
 ghost use mathlib.Core.Bool.{true};
-ghost use Prim.Native.Nat.{_*_, _≤_, _<_};
-ghost use lib.ListN.{take};
+ghost use Prim.Native.Nat.{_*_, _≤_};
+ghost use lib.ListN.{length};
+ghost use Rattle.code.specs.Limits.{mostPairs, mostCounts};
 ghost use Rattle.laws.specs.Put.{storedIn};
-ghost use Rattle.meaning.specs.Time.{countsOf, onAt};
-ghost use Rattle.store.specs.Store.{slotCounts, alike};
+ghost use Rattle.words.specs.Pairs.{countsIn};
+ghost use Rattle.meaning.specs.Time.{onAt};
+ghost use Rattle.store.specs.Store.{alike};
 
-// Keeps the first count pairs in a slot.
-pub fn keep(store: &mut [u16; 1560], slot: usize, pairs: [Pair; Code::MOST_PAIRS], count: usize)
-    requires { ⌜ (slot < 3) × (count ≤ 260) ⌝ }
-    ensures { λ _. ⌜ now (store .exit) ≡ storedIn (now (store .entry)) (slot * 520) (countsOf (take count pairs)) ⌝ }
+// Keeps the first count pairs.
+pub fn keep(kept: &mut [u16], counts: &[u16; Code::MOST_COUNTS], count: usize)
+    requires { ⌜ (length (now kept) ≡ mostCounts) × (count ≤ mostPairs) ⌝ }
+    ensures { λ _. ⌜ now (kept .exit) ≡ storedIn (now (kept .entry)) 0 (countsIn (now (counts .entry)) count) ⌝ }
 {
-    let base = slot * 520;
+    let end = 2 * count;
     let mut i: usize = 0;
-    while i < count {
-        let p = pairs[i];
-        let at = base + 2 * i;
-        store[at] = p.on;
-        store[at + 1] = p.off;
+    while i < end {
+        kept[i] = counts[i];
         i += 1;
     }
 }
 
-// Whether the first count pairs kept in a slot are these.
-pub fn same(store: &[u16; 1560], slot: usize, pairs: [Pair; Code::MOST_PAIRS], count: usize) -> bool
-    requires { ⌜ (slot < 3) × (count ≤ 260) ⌝ }
-    ensures { λ r. ⌜ r ≡ alike (slotCounts (now (store .entry)) slot count) (countsOf (take count pairs)) ⌝ }
+// Whether the first count pairs kept are these.
+pub fn same(kept: &[u16], counts: &[u16; Code::MOST_COUNTS], count: usize) -> bool
+    requires { ⌜ (length (now kept) ≡ mostCounts) × (count ≤ mostPairs) ⌝ }
+    ensures { λ r. ⌜ r ≡ alike (countsIn (now (kept .entry)) count) (countsIn (now (counts .entry)) count) ⌝ }
 {
-    let base = slot * 520;
+    let end = 2 * count;
     let mut i: usize = 0;
-    while i < count {
-        let p = pairs[i];
-        let at = base + 2 * i;
-        if store[at] != p.on {
-            return false;
-        }
-        if store[at + 1] != p.off {
+    while i < end {
+        if kept[i] != counts[i] {
             return false;
         }
         i += 1;
@@ -54,17 +47,17 @@ fn ticks(count: u16) -> u64
     (count as u64) * 1000000
 }
 
-// Whether the carrier is on at a place, in ticks, of the first count pairs kept in a slot.
-pub fn carrier(store: &[u16; 1560], slot: usize, count: usize, place: u64) -> bool
-    requires { ⌜ (slot < 3) × (count ≤ 260) ⌝ }
-    ensures { λ r. ⌜ r ≡ onAt true (slotCounts (now (store .entry)) slot count) place ⌝ }
+// Whether the carrier is on at a place, in ticks, of the first count pairs kept.
+pub fn carrier(kept: &[u16], count: usize, place: u64) -> bool
+    requires { ⌜ (length (now kept) ≡ mostCounts) × (count ≤ mostPairs) ⌝ }
+    ensures { λ r. ⌜ r ≡ onAt true (countsIn (now (kept .entry)) count) place ⌝ }
 {
-    let mut i = slot * 520;
-    let end = i + 2 * count;
+    let end = 2 * count;
+    let mut i: usize = 0;
     let mut left = place;
     let mut on = true;
     while i < end {
-        let length = ticks(store[i]);
+        let length = ticks(kept[i]);
         if left < length {
             return on;
         }

@@ -19,7 +19,21 @@ pub fn put_word(buf: &mut [u8], at: usize, w: &[u8]) -> usize
     o
 }
 
-// A number, without leading zeros.
+// A number, without leading zeros, digit by digit.
+fn put_digits(buf: &mut [u8], at: usize, n: u64) -> usize
+    requires { ⌜ at + length (decimal n) ≤ length (now buf) ⌝ }
+    ensures { λ r. ⌜ Put (now (buf .entry)) at (decimal n) (now (buf .exit)) r ⌝ }
+{
+    if n < 10 {
+        buf[at] = 48 + (n % 10) as u8;
+        return at + 1;
+    }
+    let p = put_digits(buf, at, n / 10);
+    buf[p] = 48 + (n % 10) as u8;
+    p + 1
+}
+
+// A number, without leading zeros. One digit, as most numbers of a reply have, is put without a call.
 pub fn put_number(buf: &mut [u8], at: usize, n: u64) -> usize
     requires { ⌜ at + length (decimal n) ≤ length (now buf) ⌝ }
     ensures { λ r. ⌜ Put (now (buf .entry)) at (decimal n) (now (buf .exit)) r ⌝ }
@@ -28,7 +42,5 @@ pub fn put_number(buf: &mut [u8], at: usize, n: u64) -> usize
         buf[at] = 48 + (n % 10) as u8;
         return at + 1;
     }
-    let p = put_number(buf, at, n / 10);
-    buf[p] = 48 + (n % 10) as u8;
-    p + 1
+    put_digits(buf, at, n)
 }

@@ -11,7 +11,8 @@ use borrow.Author.Tests.{ltb-true, ltb-false}
 use Rattle.laws.proofs.Choice.{cond-case}
 use Rattle.words.specs.declared.Pair.{Pair}
 use Rattle.words.specs.declared.Fields.{Fields}
-use Rattle.meaning.specs.Time.{inTicks, countsOf, onAt, Transmission, waveform, furtherCopy, done, complete, carrier}
+use Rattle.words.specs.Pairs.{countsOf}
+use Rattle.meaning.specs.Time.{inTicks, onAt, Transmission, waveform, furtherCopy, done, complete, carrier}
 use Rattle.pace.specs.Pace.{periodsOf, placeOf}
 use Rattle.pace.proofs.Lasting.{periods-split}
 use Rattle.laws.specs.Lists.{times}

@@ -1,15 +1,17 @@
 -- The copies written out: what they last, and where each begins in the pairs.
 use Prim.Native.Nat.{ℕ, zero, suc, _+_, _-_, _*_, _/_, _%_, _≤_}
-use mathlib.Core.Path.{_≡_, refl, sym, ap, _∙_}
+use mathlib.Core.Path.{_≡_, sym, ap, _∙_}
 use mathlib.Core.List.{List, [], _∷_, _++_}
 use native.Mathlib.Nat.{mul-assoc}
 use native.Mathlib.Omega.{arith}
 use lib.ListN.{take, drop}
-use lib.Seq.{drop-nil}
 use Rattle.words.specs.declared.Pair.{Pair}
 use Rattle.words.specs.declared.Fields.{Fields}
-use Rattle.meaning.specs.Time.{inTicks, countsOf, furtherCopy, waveform, lasts}
+use Rattle.words.specs.Pairs.{countsOf}
+use Rattle.meaning.specs.Time.{inTicks, furtherCopy, waveform, lasts}
+use Rattle.words.proofs.Pairs.{counts-drop}
 use Rattle.pace.specs.Pace.{periodsOf}
+use Rattle.pace.proofs.Summing.{lasts-counts}
 use Rattle.pace.proofs.Lasting.{periods-split}
 use Rattle.laws.specs.Lists.{times}
 
@@ -21,19 +23,8 @@ lasts-times : (n : ℕ) (l : List ℕ) → lasts (times n l) ≡ n * lasts l
 lasts-times zero l = omega arith
 lasts-times (suc n) l = omega (arith, lasts-append l (times n l), lasts-times n l)
 
-pub lasts-counts : (ps : List Pair) → lasts (countsOf ps) ≡ periodsOf ps
-lasts-counts [] = refl
-lasts-counts (p ∷ ps) = omega (arith, lasts-counts ps)
-
 pub first-lasts : (k : ℕ) (ps : List Pair) → lasts (countsOf ps) ≡ periodsOf (take k ps) + periodsOf (drop k ps)
 first-lasts k ps = lasts-counts ps ∙ sym (periods-split k ps)
-
-counts-drop : (k : ℕ) (ps : List Pair) → drop (2 * k) (countsOf ps) ≡ countsOf (drop k ps)
-counts-drop zero ps = refl
-counts-drop (suc k) [] = drop-nil (2 * suc k)
-counts-drop (suc k) (p ∷ ps) =
-    let e : 2 * suc k ≡ suc (suc (2 * k)) = omega arith in
-    ap (λ (n : ℕ). drop n (countsOf (p ∷ ps))) e ∙ counts-drop k ps
 
 module _ (f : Fields) (ps : List Pair) (odd : f .offset % 2 ≡ 1) where
   -- a further copy is the pairs from the offset on

@@ -13,7 +13,7 @@ use Rattle.laws.proofs.Choice.{cond-case}
 use Rattle.words.specs.declared.Pair.{Pair}
 use Rattle.code.specs.Accepted.{Accepted}
 use Rattle.words.specs.declared.Fields.{Fields}
-use Rattle.request.specs.Accepted.{FieldsWithin}
+use Rattle.command.specs.Fields.{FieldsWithin}
 use Rattle.pace.specs.declared.Passed.the-variants.{Running, Complete}
 use Rattle.pace.specs.Pace as pace
 use Rattle.meaning.specs.Time.{inTicks, firstMicro, Transmission, total, done, complete, finish, begun, started, renewed}

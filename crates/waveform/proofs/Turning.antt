@@ -9,10 +9,11 @@ use lib.ListN.{length}
 use borrow.Author.Tests.{le-ltb, ltb-false}
 use Rattle.laws.proofs.Choice.{by-test}
 use Rattle.words.specs.declared.Pair.{Pair}
-use Rattle.meaning.specs.Time.{inTicks, countsOf, onAt, lasts}
+use Rattle.words.specs.Pairs.{countsOf}
+use Rattle.meaning.specs.Time.{inTicks, onAt, lasts}
 use Rattle.pace.specs.Pace.{periodsOf}
 use Rattle.laws.specs.Lists.{times}
-use Rattle.waveform.proofs.Copies.{lasts-counts}
+use Rattle.pace.proofs.Summing.{lasts-counts}
 
 -- on or off, turned so many times
 abbrev pub turned : ℕ → Bool → Bool

@@ -3,7 +3,7 @@ use Prim.Native.Nat.{ℕ, suc, _-_, _*_, _/_, _≤_, _<_}
 use lib.ListN.{length, take, drop}
 use Rattle.meaning.specs.Time.{inTicks, Transmission, done}
 use Rattle.code.specs.Accepted.{Accepted}
-use Rattle.request.specs.Accepted.{FieldsWithin}
+use Rattle.command.specs.Fields.{FieldsWithin}
 use Rattle.pace.specs.declared.Pace.{Pace}
 use Rattle.pace.specs.Pace.{periodsOf, paceOf}
 

@@ -1,3 +1,4 @@
+-- `lines::found_of` meets its contract.
 use native.Mathlib.Omega.{arith}
 use Rattle.lines.specs.Take.{foundOf}
 use Rattle.lines.proofs.Taking.{found-few, found-many}

@@ -1,3 +1,4 @@
+-- `reader::next_from` meets its contract.
 use mathlib.Core.Path.{sym, _∙_}
 use Rattle.reader.proofs.Pieces.{standing-sound, handed-is}
 use borrow.Author.Needs.{needs}
@@ -38,7 +39,7 @@ returns-2 : tie.Need-returns-2
 returns-2 c = sym (handed-is _ _ _ (sym (c .before .before .before .next-pair .ensures) ∙ c .before .number .given .1))
 
 returns-3 : tie.Need-returns-3
-returns-3 c = c .pair-handed .ensures ∙ rw (c .before .learn .ensures) (sym (handed-is _ _ _ (sym (c .before .before .before .before .before .next-pair .ensures) ∙ c .before .before .before .on .given .1)))
+returns-3 c = c .pair-handed .ensures ∙ rw (c .before .learn .ensures .result) (sym (handed-is _ _ _ (sym (c .before .before .before .before .before .next-pair .ensures) ∙ c .before .before .before .on .given .1)))
 
 returns-4 : tie.Need-returns-4
 returns-4 c = c .pair-handed2 .ensures ∙ rw (c .before .pair-of .ensures) (sym (handed-is _ _ _ (sym (c .before .before .before .before .before .next-pair .ensures) ∙ c .before .before .before .i .given .1)))

@@ -1,40 +1,35 @@
-use Prim.Native.Nat.{_+_, _*_, _-_, _≤_}
-use mathlib.Core.Path.{_≡_, sym, _∙_}
+-- `store::carrier` meets its contract.
+use Prim.Native.Nat.{_*_, _-_, _≤_}
 use mathlib.Core.Bool.{true}
-use native.Mathlib.Omega.{arith}
+use mathlib.Core.Path.{_≡_, sym, _∙_}
+use native.Mathlib.Nat.{sub-zero}
+use Rattle.laws.specs.Lists.{numbers}
+use Rattle.laws.proofs.Numbers.{numbers-none}
+use Rattle.words.specs.Pairs.{countsIn}
 use Rattle.meaning.specs.Time.{onAt}
-use Rattle.store.specs.Store.{slotCounts, numbers}
 use Rattle.store.proofs.Turns.{inside, beyond}
+use borrow.Author.Needs.{needs}
 use Rattle.store.proofs.carrier.Statement.{statement}
 use Rattle.store.proofs.carrier.Tie as tie
-use borrow.Author.Needs.{needs}
 
 abbrev Inv-loop : tie.InvT-loop
-Inv-loop store slot count place i₀ end left₀ on₀ i left on = (i ≤ end) × (onAt true (slotCounts store slot count) place ≡ onAt on (numbers store i (end - i)) left)
+Inv-loop kept count place end i₀ left₀ on₀ i left on = (i ≤ end) × (onAt true (countsIn kept count) place ≡ onAt on (numbers kept i (end - i)) left)
 
 abbrev μ-loop : tie.MeasureT-loop
-μ-loop store slot count place i₀ end left₀ on₀ i left on = end - i
-
-mul-i : tie.Need-mul-i Inv-loop μ-loop
-mul-i c = search needs
+μ-loop kept count place end i₀ left₀ on₀ i left on = end - i
 
 mul-end : tie.Need-mul-end Inv-loop μ-loop
 mul-end c = search needs
 
-add-end : tie.Need-add-end Inv-loop μ-loop
-add-end c = search needs
-
 loop-holds : tie.Need-loop-holds Inv-loop μ-loop
-unfolding slotCounts
-loop-holds c =
-    let e : c .args .slot * 520 + 2 * c .args .count - c .args .slot * 520 ≡ 2 * c .args .count = omega arith in
-    (search needs, rw e)
+unfolding countsIn
+loop-holds c = (search needs, rw (sub-zero (2 * c .before .args .count)))
 
 mul-ticks : tie.Need-mul-ticks Inv-loop μ-loop
 mul-ticks c = search needs
 
-element-copy-out-ticks : tie.Need-element-copy-out-ticks Inv-loop μ-loop
-element-copy-out-ticks c = search needs
+shared-slice-read-ticks : tie.Need-shared-slice-read-ticks Inv-loop μ-loop
+shared-slice-read-ticks c = search needs
 
 ticks-requires : tie.Need-ticks-requires Inv-loop μ-loop
 ticks-requires c κs = search needs
@@ -52,9 +47,7 @@ loop-again : tie.Need-loop-again Inv-loop μ-loop
 loop-again c = (search needs, c .before .before .before .before .loop .inv .1 ∙ beyond _ _ _ _ _ _ (c .before .before .before .loop-test .taken) (c .before .ticks .ensures) (c .if1 .left))
 
 returns-2 : tie.Need-returns-2 Inv-loop μ-loop
-returns-2 c =
-    let e : c .before .before .args .slot * 520 + 2 * c .before .before .args .count - c .before .loop .i ≡ 0 = omega arith in
-    sym (c .before .loop .inv .1 ∙ rw e)
+returns-2 c = sym (c .before .loop .inv .1 ∙ rw (numbers-none _ _ _ (c .loop-test .left)))
 
 pub carrier-spec : {M : Type 1} → statement M
 carrier-spec =
@@ -62,12 +55,10 @@ carrier-spec =
     (tie.spec
     Inv-loop
     μ-loop
-    mul-i
     mul-end
-    add-end
     loop-holds
     mul-ticks
-    element-copy-out-ticks
+    shared-slice-read-ticks
     ticks-requires
     returns
     add-i

@@ -1,56 +1,41 @@
+-- `store::keep` meets its contract.
 use Prim.Native.Nat.{_*_, _-_, _≤_}
 use mathlib.Core.Path.{_≡_, refl, sym, _∙_}
-use native.Mathlib.Nat.{add-zero}
-use native.Mathlib.Omega.{arith}
-use lib.ListN.{length, take}
-use lib.Seq.{sets, slice-empty}
+use native.Mathlib.Nat.{sub-zero}
+use lib.ListN.{length}
+use lib.Seq.{sets}
+use Rattle.laws.proofs.Numbers.{numbers-none}
 use Rattle.laws.proofs.Storing.{stores-stored}
-use Rattle.meaning.specs.Time.{countsOf}
+use Rattle.words.specs.Pairs.{countsIn}
 use Rattle.store.proofs.Turns.{filled, fill}
+use borrow.Author.Needs.{needs}
 use Rattle.store.proofs.keep.Statement.{statement}
 use Rattle.store.proofs.keep.Tie as tie
-use borrow.Author.Needs.{needs}
 
 abbrev Inv-loop : tie.InvT-loop
-Inv-loop store₀ slot count pairs base i₀ store i =
-    (i ≤ count) × (length store ≡ length store₀)
-    × (sets store₀ (slot * 520) (countsOf (take count pairs)) ≡ filled store base pairs count i)
+Inv-loop kept₀ counts count end i₀ kept i = (i ≤ end) × (length kept ≡ length kept₀) × (sets kept₀ 0 (countsIn counts count) ≡ filled kept counts end i)
 
 abbrev μ-loop : tie.MeasureT-loop
-μ-loop store₀ slot count pairs base i₀ store i = count - i
+μ-loop kept₀ counts count end i₀ kept i = end - i
 
-mul-base : tie.Need-mul-base Inv-loop μ-loop
-mul-base c = search needs
+mul-end : tie.Need-mul-end Inv-loop μ-loop
+mul-end c = search needs
 
 loop-holds : tie.Need-loop-holds Inv-loop μ-loop
-loop-holds c = (search needs, refl, rw add-zero)
+unfolding countsIn
+loop-holds c = (search needs, refl, rw (sub-zero (2 * c .args .count)))
 
-mul-p : tie.Need-mul-p Inv-loop μ-loop
-mul-p c = search needs
+mul-kept : tie.Need-mul-kept Inv-loop μ-loop
+mul-kept c = search needs
 
-array-copy-out-p : tie.Need-array-copy-out-p Inv-loop μ-loop
-array-copy-out-p c = search needs
+element-copy-out-kept : tie.Need-element-copy-out-kept Inv-loop μ-loop
+element-copy-out-kept c = search needs
 
-mul-at : tie.Need-mul-at Inv-loop μ-loop
-mul-at c = search needs
+mul-kept-2 : tie.Need-mul-kept-2 Inv-loop μ-loop
+mul-kept-2 c = search needs
 
-add-at : tie.Need-add-at Inv-loop μ-loop
-add-at c = search needs
-
-mul-store : tie.Need-mul-store Inv-loop μ-loop
-mul-store c = search needs
-
-element-write-store : tie.Need-element-write-store Inv-loop μ-loop
-element-write-store c = search needs
-
-add-store : tie.Need-add-store Inv-loop μ-loop
-add-store c = search needs
-
-mul-store-2 : tie.Need-mul-store-2 Inv-loop μ-loop
-mul-store-2 c = search needs
-
-element-write-store-2 : tie.Need-element-write-store-2 Inv-loop μ-loop
-element-write-store-2 c = search needs
+slice-write-kept : tie.Need-slice-write-kept Inv-loop μ-loop
+slice-write-kept c = search needs
 
 add-i : tie.Need-add-i Inv-loop μ-loop
 add-i c = search needs
@@ -59,14 +44,13 @@ loop-less : tie.Need-loop-less Inv-loop μ-loop
 loop-less c = search needs
 
 loop-again : tie.Need-loop-again Inv-loop μ-loop
-loop-again c =
-    let k : c .before .before .before .args .count ≤ length (c .before .before .before .args .t3) = search needs in
-    (search needs, search needs, c .before .before .loop .inv .2 ∙ fill _ _ _ _ _ (c .before .loop-test .taken) k)
+loop-again c = (search needs, search needs, c .before .before .loop .inv .2 ∙ fill _ _ _ _ (c .before .loop-test .taken))
+
+same-length : tie.Need-same-length Inv-loop μ-loop
+same-length c = search needs
 
 returns : tie.Need-returns Inv-loop μ-loop
-returns c =
-    let e : c .before .loop .i ≡ c .before .before .args .count = omega arith in
-    sym (c .before .loop .inv .2 ∙ rw (e, slice-empty)) ∙ stores-stored _ _ _
+returns c = sym (c .before .loop .inv .2 ∙ rw (numbers-none _ _ _ (c .loop-test .left))) ∙ stores-stored _ _ _
 
 pub keep-spec : {M : Type 1} → statement M
 keep-spec =
@@ -74,18 +58,14 @@ keep-spec =
     (tie.spec
     Inv-loop
     μ-loop
-    mul-base
+    mul-end
     loop-holds
-    mul-p
-    array-copy-out-p
-    mul-at
-    add-at
-    mul-store
-    element-write-store
-    add-store
-    mul-store-2
-    element-write-store-2
+    mul-kept
+    element-copy-out-kept
+    mul-kept-2
+    slice-write-kept
     add-i
     loop-less
     loop-again
+    same-length
     returns)

@@ -1,3 +1,4 @@
+-- `code::letters::learn` meets its contract.
 use mathlib.Core.Path.{_≡_, sym, _∙_}
 use lib.ListN.{length, length-map}
 use borrow.Author.Tests.{lt-ltb, le-ltb}
@@ -19,7 +20,7 @@ returns c =
     let known = rw (c .before .place-of .ensures) at (c .if1 .taken) in
     record {
       result = rw (lt-ltb _ _ known);
-      kept = learn-known _ _ (long (c .before .before)) (c .before .before .pre) known;
+      kept = λ few. learn-known _ _ (long (c .before .before)) few known;
     }
 
 mul-pairs : tie.Need-mul-pairs
@@ -37,7 +38,7 @@ returns-2 c =
     let new = rw (c .before .before .before .place-of .ensures) at (c .before .before .if1 .left) in
     record {
       result = rw (le-ltb _ _ new, lt-ltb _ _ (c .before .if2 .taken));
-      kept = learn-new _ _ (long (c .before .before .before .before)) (c .before .before .before .before .pre) new (c .before .if2 .taken);
+      kept = λ few. learn-new _ _ (long (c .before .before .before .before)) few new (c .before .if2 .taken);
     }
 
 returns-3 : tie.Need-returns-3
@@ -46,7 +47,7 @@ returns-3 c =
     let new = rw (c .before .before .place-of .ensures) at (c .before .if1 .left) in
     record {
       result = rw (le-ltb _ _ new, le-ltb _ _ (c .if2 .left));
-      kept = learn-full _ _ (long (c .before .before .before)) (c .before .before .before .pre) new (c .if2 .left);
+      kept = λ few. learn-full _ _ (long (c .before .before .before)) few new (c .if2 .left);
     }
 
 pub learn-spec : {M : Type 1} → statement M

@@ -1,3 +1,4 @@
+-- `code::letters::same` meets its contract.
 use borrow.Author.Tests.{eq-eqb, ne-eqb}
 use Rattle.words.specs.Pairs.{samePair}
 use Rattle.code.proofs.letters.same.Statement.{statement}

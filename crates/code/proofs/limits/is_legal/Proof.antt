@@ -1,3 +1,4 @@
+-- `code::limits::is_legal` meets its contract.
 use borrow.Author.Tests.{lt-ltb, le-ltb}
 use Rattle.code.specs.Limits.{legal}
 use borrow.Author.Needs.{needs}

@@ -1,3 +1,4 @@
+-- `code::limits::smallest_count` meets its contract.
 use mathlib.Core.Path.{refl}
 use Rattle.code.proofs.Smallest.{too-low, too-high, least-count, shortest-count}
 use borrow.Author.Needs.{needs}

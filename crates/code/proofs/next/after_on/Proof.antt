@@ -1,3 +1,4 @@
+-- `code::next::after_on` meets its contract.
 use mathlib.Core.Path.{sym, _∙_}
 use borrow.Author.Tests.{le-leb, lt-leb, eq-eqb, ne-eqb}
 use Rattle.code.specs.Next.{afterOn}

@@ -1,3 +1,4 @@
+-- `code::next::begun_at` meets its contract.
 use mathlib.Core.Path.{sym, _∙_}
 use Rattle.code.specs.Next.{begunAt}
 use borrow.Author.Needs.{needs}

@@ -1,3 +1,4 @@
+-- `code::next::count_at` meets its contract.
 use mathlib.Core.Path.{sym, _∙_}
 use native.Mathlib.Omega.{arith}
 use Rattle.code.specs.Next.{countAt}

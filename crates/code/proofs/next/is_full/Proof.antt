@@ -1,3 +1,4 @@
+-- `code::next::is_full` meets its contract.
 use mathlib.Core.Path.{refl}
 use Rattle.code.proofs.next.is_full.Statement.{statement}
 use Rattle.code.proofs.next.is_full.Tie as tie

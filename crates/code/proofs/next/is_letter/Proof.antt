@@ -1,3 +1,4 @@
+-- `code::next::is_letter` meets its contract.
 use borrow.Author.Tests.{lt-ltb, le-ltb}
 use Rattle.code.specs.Next.{isLetter}
 use Rattle.code.proofs.next.is_letter.Statement.{statement}

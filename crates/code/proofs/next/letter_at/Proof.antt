@@ -1,3 +1,4 @@
+-- `code::next::letter_at` meets its contract.
 use mathlib.Core.Path.{sym, _∙_}
 use borrow.Author.Tests.{lt-ltb, le-ltb}
 use Rattle.code.specs.Next.{letterAt}

@@ -1,4 +1,6 @@
+-- `code::next::next_pair` meets its contract.
 use mathlib.Core.Path.{sym, _∙_}
+use mathlib.Core.Logic.{⊎-elim}
 use borrow.Author.Tests.{le-leb, lt-leb, eq-eqb, ne-eqb}
 use Rattle.code.specs.Next.{nextPair}
 use Rattle.code.proofs.Nexts.{letter-low}
@@ -32,39 +34,33 @@ returns-2 c = rw (lt-leb _ _ (c .before .before .before .before .if1 .left), sym
 enum-told : tie.Need-enum-told
 enum-told c = search needs
 
-begun-at-requires : tie.Need-begun-at-requires
-begun-at-requires c κs = search needs
-
 enum-told-2 : tie.Need-enum-told-2
 enum-told-2 c = search needs
 
-add-begun-at : tie.Need-add-begun-at
-add-begun-at c = search needs
+returns-3 : tie.Need-returns-3
+unfolding nextPair
+returns-3 c = rw (lt-leb _ _ (c .before .before .before .before .before .before .if1 .left), sym (c .before .before .before .before .is-letter .ensures) ∙ c .before .before .before .if2 .left, c .before .enum-told2 .given .1, ne-eqb _ _ (c .if3 .taken))
 
-begun-at-requires-2 : tie.Need-begun-at-requires-2
-begun-at-requires-2 c κs = search needs
+add-begin : tie.Need-add-begin
+add-begin c = search needs
 
 enum-told-3 : tie.Need-enum-told-3
 enum-told-3 c = search needs
 
-begun-at-requires-3 : tie.Need-begun-at-requires-3
-begun-at-requires-3 c κs = search needs
-
-returns-3 : tie.Need-returns-3
-unfolding nextPair
-returns-3 c = rw (lt-leb _ _ (c .before .before .before .before .before .before .if1 .left), sym (c .before .before .before .before .is-letter .ensures) ∙ c .before .before .before .if2 .left, c .before .enum-told .given .1) (c .begun-at .ensures)
+begun-at-requires : tie.Need-begun-at-requires
+begun-at-requires c κs = search needs
 
 returns-4 : tie.Need-returns-4
 unfolding nextPair
-returns-4 c = rw (lt-leb _ _ (c .before .before .before .before .before .before .before .if1 .left), sym (c .before .before .before .before .before .is-letter .ensures) ∙ c .before .before .before .before .if2 .left, c .before .before .enum-told2 .given .1, eq-eqb _ _ (c .before .if3 .taken)) (c .begun-at2 .ensures)
-
-returns-5 : tie.Need-returns-5
-unfolding nextPair
-returns-5 c = rw (lt-leb _ _ (c .before .before .before .before .before .before .if1 .left), sym (c .before .before .before .before .is-letter .ensures) ∙ c .before .before .before .if2 .left, c .before .enum-told2 .given .1, ne-eqb _ _ (c .if3 .left))
-
-returns-6 : tie.Need-returns-6
-unfolding nextPair
-returns-6 c = rw (lt-leb _ _ (c .before .before .before .before .before .before .if1 .left), sym (c .before .before .before .before .is-letter .ensures) ∙ c .before .before .before .if2 .left, c .before .enum-told3 .given .1) (c .begun-at3 .ensures)
+returns-4 c =
+    let past = lt-leb _ _ (c .before .before .before .before .before .if1 .left) in
+    let other = sym (c .before .before .before .is-letter .ensures) ∙ c .before .before .if2 .left in
+    ⊎-elim
+    (λ w. rw (past, other, w .1 .given .1) (rw (w .2) at (c .begun-at .ensures)))
+    (⊎-elim
+    (λ w. rw (past, other, w .1 .given .1, eq-eqb _ _ (w .2 .left)) (rw (w .3) at (c .begun-at .ensures)))
+    (λ w. rw (past, other, w .1 .given .1) (rw (w .2) at (c .begun-at .ensures))))
+    (c .before .match .came)
 
 pub next-pair-spec : {M : Type 1} → statement M
 next-pair-spec =
@@ -78,13 +74,9 @@ next-pair-spec =
     letter-at-requires
     returns-2
     enum-told
-    begun-at-requires
     enum-told-2
-    add-begun-at
-    begun-at-requires-2
-    enum-told-3
-    begun-at-requires-3
     returns-3
-    returns-4
-    returns-5
-    returns-6)
+    add-begin
+    enum-told-3
+    begun-at-requires
+    returns-4)

@@ -1,3 +1,4 @@
+-- `code::next::spelled_at` meets its contract.
 use mathlib.Core.Path.{sym, _∙_}
 use Rattle.code.specs.Next.{spelledAt}
 use borrow.Author.Needs.{needs}

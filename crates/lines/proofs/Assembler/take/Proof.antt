@@ -1,3 +1,4 @@
+-- `lines::Assembler::take` meets its contract.
 use Prim.Native.Nat.{suc, _-_, _≤_}
 use mathlib.Core.Path.{_≡_, _∙_}
 use native.Mathlib.Omega.{arith}

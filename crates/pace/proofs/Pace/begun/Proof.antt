@@ -1,3 +1,4 @@
+-- `pace::Pace::begun` meets its contract.
 use mathlib.Core.Path.{sym}
 use native.Mathlib.Omega.{arith}
 use Rattle.pace.specs.Pace.{begun}

@@ -1,3 +1,4 @@
+-- `pace::Pace::end` meets its contract.
 use mathlib.Core.Path.{refl}
 use native.Mathlib.Omega.{arith}
 use Rattle.pace.specs.Pace.{endOf}

@@ -1,3 +1,4 @@
+-- `pace::Pace::passed` meets its contract.
 use native.Mathlib.Omega.{arith}
 use borrow.Author.Tests.{le-leb, lt-leb}
 use Rattle.meaning.specs.Time.{firstMicro}

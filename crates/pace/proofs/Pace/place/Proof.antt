@@ -1,3 +1,4 @@
+-- `pace::Pace::place` meets its contract.
 use native.Mathlib.Omega.{arith}
 use borrow.Author.Tests.{lt-ltb, le-ltb}
 use Rattle.pace.specs.Pace.{placeOf}

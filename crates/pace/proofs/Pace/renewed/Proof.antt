@@ -1,3 +1,4 @@
+-- `pace::Pace::renewed` meets its contract.
 use native.Mathlib.Numerals.{one-add}
 use native.Mathlib.Omega.{arith}
 use Rattle.pace.specs.Pace.{begun, renewed}

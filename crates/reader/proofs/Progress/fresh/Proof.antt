@@ -1,3 +1,4 @@
+-- `reader::Progress::fresh` meets its contract.
 use borrow.Author.Needs.{needs}
 use Rattle.reader.proofs.Progress.fresh.Statement.{statement}
 use Rattle.reader.proofs.Progress.fresh.Tie as tie

@@ -1,3 +1,4 @@
+-- `text::field::after_comma` meets its contract.
 use borrow.Author.Tests.{lt-ltb, le-ltb}
 use Rattle.text.specs.Field.{afterComma}
 use borrow.Author.Needs.{needs}

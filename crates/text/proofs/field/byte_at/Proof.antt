@@ -1,3 +1,4 @@
+-- `text::field::byte_at` meets its contract.
 use mathlib.Core.Path.{sym}
 use denote.Ref.{now}
 use lib.ListN.{List·getD-eq-default}

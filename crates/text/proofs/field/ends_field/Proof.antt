@@ -1,3 +1,4 @@
+-- `text::field::ends_field` meets its contract.
 use borrow.Author.Tests.{le-leb, lt-leb}
 use Rattle.text.specs.Field.{endsField}
 use borrow.Author.Needs.{needs}

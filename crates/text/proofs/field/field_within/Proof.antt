@@ -1,3 +1,4 @@
+-- `text::field::field_within` meets its contract.
 use mathlib.Core.Path.{sym, _∙_}
 use borrow.Author.Tests.{not-true, not-false, lt-ltb, le-ltb}
 use Rattle.text.specs.Field.{fieldWithin}

@@ -1,3 +1,4 @@
+-- `text::number::found` meets its contract.
 use borrow.Author.Tests.{eq-eqb, ne-eqb, lt-ltb, le-ltb}
 use Rattle.text.proofs.number.found.Statement.{statement}
 use Rattle.text.proofs.number.found.Tie as tie

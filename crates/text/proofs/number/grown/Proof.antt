@@ -1,3 +1,4 @@
+-- `text::number::grown` meets its contract.
 use borrow.Author.Tests.{lt-ltb, le-ltb}
 use Rattle.text.specs.Number.{grown}
 use borrow.Author.Needs.{needs}

@@ -1,3 +1,4 @@
+-- `text::number::is_digit` meets its contract.
 use borrow.Author.Tests.{lt-ltb, le-ltb}
 use Rattle.text.proofs.number.is_digit.Statement.{statement}
 use Rattle.text.proofs.number.is_digit.Tie as tie

@@ -7,36 +7,46 @@ use lib.ListN.{length, length-append}
 use Rattle.laws.specs.Bytes.{bytes}
 use Rattle.words.specs.Decimal.{decimal}
 use Rattle.text.proofs.Decimals.{decimal-most}
+use Rattle.request.specs.declared.Place.{Place}
+use Rattle.request.specs.declared.Fixed.{Fixed as FixedKind}
+use Rattle.request.specs.declared.Fixed.the-variants.{Devices, Version}
 use Rattle.request.specs.Mode.{modeWord}
 use Rattle.request.specs.declared.mode.Mode.{Mode as ModeKind}
 use Rattle.request.specs.declared.mode.Mode.the-variants.{Ir, Sensor, IrBlaster}
 use Rattle.reply.specs.declared.Reply.{Reply}
-use Rattle.reply.specs.declared.Reply.the-variants.{Devices, Version, Error, Mode, State, Complete, Busy, Stopped}
-use Rattle.reply.specs.Reply.{addressText, replyText}
+use Rattle.reply.specs.declared.Reply.the-variants.{Fixed, Error, Mode, State, Complete, Busy, Stopped}
+use Rattle.reply.specs.Reply.{addressText, fixedText, replyText}
 
-pub devices-66 : length (replyText Devices) ≡ 66
+pub devices-66 : length (replyText (Fixed Devices)) ≡ 66
 unfolding replyText
 devices-66 = refl
 
-address-fits : (w : List ℕ) (m port : ℕ) → length (addressText w m port) ≤ length w + 41
-address-fits w m port = simp length-append (omega (arith, decimal-most m, decimal-most port))
+-- a word and an address
+address-fits : (w : List ℕ) (place : Place) → length (addressText w place) ≤ length w + 41
+address-fits w place = simp length-append (omega (arith, decimal-most (place .m), decimal-most (place .port)))
 
 -- a comma, a number and the CR
 last-fits : (n : ℕ) → length (bytes "," ++ decimal n ++ bytes "\r") ≤ 22
 last-fits n = simp length-append (omega (arith, decimal-most n))
 
+-- a comma, a mode and the CR
 mode-fits : (mode : ModeKind) → length (bytes "," ++ modeWord mode ++ bytes "\r") ≤ 12
 mode-fits Ir = omega arith
 mode-fits Sensor = omega arith
 mode-fits IrBlaster = omega arith
 
+-- a reply that is always the same
+fixed-fits : (fixed : FixedKind) → length (fixedText fixed) ≤ 66
+fixed-fits Devices = omega arith
+fixed-fits Version = omega arith
+
+-- any reply
 pub reply-fits : (r : Reply) → length (replyText r) ≤ 128
 unfolding replyText
-reply-fits Devices = omega arith
-reply-fits Version = omega arith
-reply-fits (Error number m port) = rw length-append (omega (arith, address-fits (bytes "ERR_") m port))
-reply-fits (Mode port mode) = rw length-append (omega (arith, address-fits (bytes "IR,") 1 port, mode-fits mode))
-reply-fits (State m port state) = rw length-append (omega (arith, address-fits (bytes "state,") m port, last-fits state))
-reply-fits (Complete port id) = rw length-append (omega (arith, address-fits (bytes "completeir,") 1 port, last-fits id))
-reply-fits (Busy port id) = rw length-append (omega (arith, address-fits (bytes "busyIR,") 1 port, last-fits id))
-reply-fits (Stopped port) = rw length-append (omega (arith, address-fits (bytes "stopir,") 1 port))
+reply-fits (Fixed fixed) = omega (arith, fixed-fits fixed)
+reply-fits (Error number place) = rw length-append (omega (arith, address-fits (bytes "ERR_") place))
+reply-fits (Mode place mode) = rw length-append (omega (arith, address-fits (bytes "IR,") place, mode-fits mode))
+reply-fits (State place state) = rw length-append (omega (arith, address-fits (bytes "state,") place, last-fits state))
+reply-fits (Complete place id) = rw length-append (omega (arith, address-fits (bytes "completeir,") place, last-fits id))
+reply-fits (Busy place id) = rw length-append (omega (arith, address-fits (bytes "busyIR,") place, last-fits id))
+reply-fits (Stopped place) = rw length-append (omega (arith, address-fits (bytes "stopir,") place))

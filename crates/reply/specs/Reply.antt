@@ -5,23 +5,30 @@ use mathlib.Core.Path.{_≡_}
 use mathlib.Core.List.{List, [], _∷_, _++_}
 use Rattle.laws.specs.Bytes.{bytes}
 use Rattle.words.specs.Decimal.{decimal, threeDigits}
+use Rattle.request.specs.declared.Place.{Place}
+use Rattle.request.specs.declared.Fixed.{Fixed as FixedKind}
+use Rattle.request.specs.declared.Fixed.the-variants.{Devices, Version}
 use Rattle.request.specs.Mode.{modeWord}
 use Rattle.reply.specs.declared.Reply.{Reply}
-use Rattle.reply.specs.declared.Reply.the-variants.{Devices, Version, Error, Mode, State, Complete, Busy, Stopped}
+use Rattle.reply.specs.declared.Reply.the-variants.{Fixed, Error, Mode, State, Complete, Busy, Stopped}
 
 -- a word and m:p behind it
-abbrev pub addressText : List ℕ → ℕ → ℕ → List ℕ
-addressText word m port = word ++ decimal m ++ bytes ":" ++ decimal port
+abbrev pub addressText : List ℕ → Place → List ℕ
+addressText word place = word ++ decimal (place .m) ++ bytes ":" ++ decimal (place .port)
+
+-- the reply of each request without an address
+abbrev pub fixedText : FixedKind → List ℕ
+fixedText Devices = bytes "device,0,0 ETHERNET\rdevice,1,3 IR\rdevice,2,3 RELAY\rendlistdevices\r"
+fixedText Version = bytes "LH-01\r"
 
 unfoldable pub replyText : Reply → List ℕ
-replyText Devices = bytes "device,0,0 ETHERNET\rdevice,1,3 IR\rdevice,2,3 RELAY\rendlistdevices\r"
-replyText Version = bytes "LH-01\r"
-replyText (Error number m port) = addressText (bytes "ERR_") m port ++ (bytes "," ++ threeDigits number ++ bytes "\r")
-replyText (Mode port mode) = addressText (bytes "IR,") 1 port ++ (bytes "," ++ modeWord mode ++ bytes "\r")
-replyText (State m port state) = addressText (bytes "state,") m port ++ (bytes "," ++ decimal state ++ bytes "\r")
-replyText (Complete port id) = addressText (bytes "completeir,") 1 port ++ (bytes "," ++ decimal id ++ bytes "\r")
-replyText (Busy port id) = addressText (bytes "busyIR,") 1 port ++ (bytes "," ++ decimal id ++ bytes "\r")
-replyText (Stopped port) = addressText (bytes "stopir,") 1 port ++ bytes "\r"
+replyText (Fixed fixed) = fixedText fixed
+replyText (Error number place) = addressText (bytes "ERR_") place ++ (bytes "," ++ threeDigits number ++ bytes "\r")
+replyText (Mode place mode) = addressText (bytes "IR,") place ++ (bytes "," ++ modeWord mode ++ bytes "\r")
+replyText (State place state) = addressText (bytes "state,") place ++ (bytes "," ++ decimal state ++ bytes "\r")
+replyText (Complete place id) = addressText (bytes "completeir,") place ++ (bytes "," ++ decimal id ++ bytes "\r")
+replyText (Busy place id) = addressText (bytes "busyIR,") place ++ (bytes "," ++ decimal id ++ bytes "\r")
+replyText (Stopped place) = addressText (bytes "stopir,") place ++ bytes "\r"
 
 -- some text and a CR behind it
 pub record EndsWithCr (text : List ℕ) : Type 0 where

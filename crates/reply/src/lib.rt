@@ -1,5 +1,9 @@
 // The replies of the hub and the bytes of each, ended by CR.
+use request::Fixed;
+use request::Place;
 use request::mode::Mode;
+use text::write::put_number;
+use text::write::put_word;
 ghost use mathlib.Core.Path.{_≡_};
 ghost use mathlib.Core.List.{_++_};
 ghost use Prim.Native.Nat.{_+_, _≤_};
@@ -8,23 +12,22 @@ ghost use Rattle.laws.specs.Put.{Put};
 ghost use Rattle.laws.specs.Bytes.{bytes};
 ghost use Rattle.words.specs.Decimal.{decimal, threeDigits};
 ghost use Rattle.request.specs.Mode.{modeWord};
-ghost use Rattle.reply.specs.Reply.{addressText, replyText};
+ghost use Rattle.reply.specs.Reply.{addressText, fixedText, replyText};
 
 pub enum Reply {
-    Devices,
-    Version,
-    // ERR_m:p,nnn: the number, the module and the port
-    Error(u64, u64, u64),
-    // IR,1:p,mode
-    Mode(u64, Mode),
-    // state,m:p,s: the module, the port and the state
-    State(u64, u64, u64),
-    // completeir,1:p,id
-    Complete(u64, u64),
-    // busyIR,1:p,id
-    Busy(u64, u64),
-    // stopir,1:p
-    Stopped(u64),
+    Fixed(Fixed),
+    // ERR_m:p,nnn
+    Error { number: u64, place: Place },
+    // IR,m:p,mode
+    Mode { place: Place, mode: Mode },
+    // state,m:p,s
+    State { place: Place, state: u64 },
+    // completeir,m:p,id
+    Complete { place: Place, id: u64 },
+    // busyIR,m:p,id
+    Busy { place: Place, id: u64 },
+    // stopir,m:p
+    Stopped { place: Place },
 }
 
 impl Reply {
@@ -33,14 +36,14 @@ impl Reply {
 }
 
 // A word, and then m:p.
-fn put_address(buf: &mut [u8], w: &[u8], m: u64, port: u64) -> usize
+fn put_address(buf: &mut [u8], w: &[u8], place: Place) -> usize
     requires { ⌜ length (now w) + 41 ≤ length (now buf) ⌝ }
-    ensures { λ r. ⌜ Put (now (buf .entry)) 0 (addressText (now (w .entry)) m port) (now (buf .exit)) r × (r ≤ length (now (w .entry)) + 41) ⌝ }
+    ensures { λ r. ⌜ Put (now (buf .entry)) 0 (addressText (now (w .entry)) place) (now (buf .exit)) r × (r ≤ length (now (w .entry)) + 41) ⌝ }
 {
-    let a = text::write::put_word(buf, 0, w);
-    let b = text::write::put_number(buf, a, m);
-    let c = text::write::put_word(buf, b, b":");
-    text::write::put_number(buf, c, port)
+    let a = put_word(buf, 0, w);
+    let b = put_number(buf, a, place.m);
+    let c = put_word(buf, b, b":");
+    put_number(buf, c, place.port)
 }
 
 // A comma, a number and the CR.
@@ -48,9 +51,9 @@ fn put_last(buf: &mut [u8], at: usize, n: u64) -> usize
     requires { ⌜ at + 22 ≤ length (now buf) ⌝ }
     ensures { λ r. ⌜ Put (now (buf .entry)) at (bytes "," ++ decimal n ++ bytes "\r") (now (buf .exit)) r ⌝ }
 {
-    let a = text::write::put_word(buf, at, b",");
-    let b = text::write::put_number(buf, a, n);
-    text::write::put_word(buf, b, b"\r")
+    let a = put_word(buf, at, b",");
+    let b = put_number(buf, a, n);
+    put_word(buf, b, b"\r")
 }
 
 // A comma, three digits and the CR.
@@ -58,11 +61,11 @@ fn put_error_number(buf: &mut [u8], at: usize, n: u64) -> usize
     requires { ⌜ at + 5 ≤ length (now buf) ⌝ }
     ensures { λ r. ⌜ Put (now (buf .entry)) at (bytes "," ++ threeDigits n ++ bytes "\r") (now (buf .exit)) r ⌝ }
 {
-    let a = text::write::put_word(buf, at, b",");
+    let a = put_word(buf, at, b",");
     buf[a] = b'0' + (n / 100 % 10) as u8;
     buf[a + 1] = b'0' + (n / 10 % 10) as u8;
     buf[a + 2] = b'0' + (n % 10) as u8;
-    text::write::put_word(buf, a + 3, b"\r")
+    put_word(buf, a + 3, b"\r")
 }
 
 fn put_mode(buf: &mut [u8], at: usize, mode: Mode) -> usize
@@ -70,9 +73,24 @@ fn put_mode(buf: &mut [u8], at: usize, mode: Mode) -> usize
     ensures { λ r. ⌜ Put (now (buf .entry)) at (bytes "," ++ modeWord mode ++ bytes "\r") (now (buf .exit)) r ⌝ }
 {
     match mode {
-        Mode::Ir => text::write::put_word(buf, at, b",IR\r"),
-        Mode::Sensor => text::write::put_word(buf, at, b",SENSOR\r"),
-        Mode::IrBlaster => text::write::put_word(buf, at, b",IR_BLASTER\r"),
+        Mode::Ir => put_word(buf, at, b",IR\r"),
+        Mode::Sensor => put_word(buf, at, b",SENSOR\r"),
+        Mode::IrBlaster => put_word(buf, at, b",IR_BLASTER\r"),
+    }
+}
+
+// The whole reply of a request without an address.
+fn put_fixed(buf: &mut [u8], fixed: Fixed) -> usize
+    requires { ⌜ 66 ≤ length (now buf) ⌝ }
+    ensures { λ r. ⌜ Put (now (buf .entry)) 0 (fixedText fixed) (now (buf .exit)) r ⌝ }
+{
+    match fixed {
+        Fixed::Devices => put_word(
+            buf,
+            0,
+            b"device,0,0 ETHERNET\rdevice,1,3 IR\rdevice,2,3 RELAY\rendlistdevices\r",
+        ),
+        Fixed::Version => put_word(buf, 0, b"LH-01\r"),
     }
 }
 
@@ -82,35 +100,30 @@ pub fn put_reply(buf: &mut [u8], reply: Reply) -> usize
     ensures { λ r. ⌜ Put (now (buf .entry)) 0 (replyText reply) (now (buf .exit)) r ⌝ }
 {
     match reply {
-        Reply::Devices => text::write::put_word(
-            buf,
-            0,
-            b"device,0,0 ETHERNET\rdevice,1,3 IR\rdevice,2,3 RELAY\rendlistdevices\r",
-        ),
-        Reply::Version => text::write::put_word(buf, 0, b"LH-01\r"),
-        Reply::Error(number, m, port) => {
-            let a = put_address(buf, b"ERR_", m, port);
+        Reply::Fixed(fixed) => put_fixed(buf, fixed),
+        Reply::Error { number, place } => {
+            let a = put_address(buf, b"ERR_", place);
             put_error_number(buf, a, number)
         }
-        Reply::Mode(port, mode) => {
-            let a = put_address(buf, b"IR,", 1, port);
+        Reply::Mode { place, mode } => {
+            let a = put_address(buf, b"IR,", place);
             put_mode(buf, a, mode)
         }
-        Reply::State(m, port, state) => {
-            let a = put_address(buf, b"state,", m, port);
+        Reply::State { place, state } => {
+            let a = put_address(buf, b"state,", place);
             put_last(buf, a, state)
         }
-        Reply::Complete(port, id) => {
-            let a = put_address(buf, b"completeir,", 1, port);
+        Reply::Complete { place, id } => {
+            let a = put_address(buf, b"completeir,", place);
             put_last(buf, a, id)
         }
-        Reply::Busy(port, id) => {
-            let a = put_address(buf, b"busyIR,", 1, port);
+        Reply::Busy { place, id } => {
+            let a = put_address(buf, b"busyIR,", place);
             put_last(buf, a, id)
         }
-        Reply::Stopped(port) => {
-            let a = put_address(buf, b"stopir,", 1, port);
-            text::write::put_word(buf, a, b"\r")
+        Reply::Stopped { place } => {
+            let a = put_address(buf, b"stopir,", place);
+            put_word(buf, a, b"\r")
         }
     }
 }

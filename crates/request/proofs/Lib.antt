@@ -1,5 +1,5 @@
+pub mod Covering
 pub mod Naming
-pub mod Sending
-pub mod Capping
+pub mod Shorts
 pub mod Beyond
 pub mod Accepted

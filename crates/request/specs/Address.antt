@@ -2,20 +2,24 @@
 -- (getstate takes 1 or 2)", 003 "port not 1 to 3". The address is the whole field.
 use Prim.Native.Nat.{ℕ, _+_}
 use mathlib.Core.List.{List, [], _∷_}
-use mathlib.Core.Bool.{Bool, cond, not, _||_}
+use mathlib.Core.Bool.{Bool, false, cond, not, _||_}
 use lib.ListN.{length, getD}
 use lib.Dec.{ltb, leb, eqb}
 use Rattle.laws.specs.Checks.{_⇒_, first}
+use Rattle.words.specs.Digits.{isDigit}
+use Rattle.words.specs.Places.{portsOf}
 use Rattle.text.specs.Number.{numberAt}
 use Rattle.text.specs.Field.{endsField}
 use Rattle.text.specs.declared.number.Number.{Number}
 use Rattle.text.specs.declared.number.Number.the-variants as number
+use Rattle.request.specs.declared.Place.{Place}
 use Rattle.request.specs.declared.name.Name.{Name}
 use Rattle.request.specs.declared.name.Name.the-variants.{SetIr, GetIr, SetState, GetState, SendIr, StopIr}
 use Rattle.request.specs.declared.address.Part.{Part}
 use Rattle.request.specs.declared.address.Part.the-variants.{Missing, Digits}
 use Rattle.request.specs.declared.address.Address.{Address}
 use Rattle.request.specs.declared.address.Address.the-variants.{Bad, At}
+use Rattle.request.specs.Place.{placeOf}
 
 -- a module or port of over six digits is still digits, so never 017: it counts as one number above every module and port,
 -- and the address is 002 or 003
@@ -33,7 +37,7 @@ partAt s at = partOf (numberAt s at)
 -- behind the colon
 abbrev pub portRead : List ℕ → ℕ → Part → Address
 portRead s m Missing = Bad
-portRead s m (Digits port end) = cond (endsField s end) (At m port end) Bad
+portRead s m (Digits port end) = cond (endsField s end) (At (placeOf m port) end) Bad
 
 unfoldable pub portAt : List ℕ → ℕ → ℕ → Address
 portAt s m at = portRead s m (partAt s at)
@@ -49,6 +53,15 @@ moduleRead s (Digits m end) = first
 unfoldable pub addressAt : List ℕ → ℕ → Address
 addressAt s at = moduleRead s (partAt s at)
 
+-- a digit, a colon and a digit, which are the whole field
+unfoldable pub isShort : List ℕ → ℕ → Bool
+isShort s at = first
+    ((ltb (length s) (at + 3) ⇒ false)
+    ∷ (not (isDigit (getD s at 0)) ⇒ false)
+    ∷ (not (eqb (getD s (at + 1) 0) 58) ⇒ false)
+    ∷ (not (isDigit (getD s (at + 2) 0)) ⇒ false)
+    ∷ []) (endsField s (at + 3))
+
 abbrev pub hasModule : Name → ℕ → Bool
 hasModule SetIr m = eqb m 1
 hasModule GetIr m = eqb m 1
@@ -58,9 +71,9 @@ hasModule SendIr m = eqb m 1
 hasModule StopIr m = eqb m 1
 
 -- 0 where the address is one that the request takes
-unfoldable pub addressFault : Name → ℕ → ℕ → ℕ
-addressFault name m port = first
-    ((not (hasModule name m) ⇒ 2)
-    ∷ (ltb port 1 ⇒ 3)
-    ∷ (ltb 3 port ⇒ 3)
+unfoldable pub addressFault : Name → Place → ℕ
+addressFault name place = first
+    ((not (hasModule name (place .m)) ⇒ 2)
+    ∷ (ltb (place .port) 1 ⇒ 3)
+    ∷ (ltb (portsOf (place .m)) (place .port) ⇒ 3)
     ∷ []) 0

@@ -2,7 +2,7 @@
 -- connector other than 3".
 use Prim.Native.Nat.{ℕ, _+_}
 use mathlib.Core.List.{List, [], _∷_}
-use mathlib.Core.Bool.{Bool, true}
+use mathlib.Core.Bool.{Bool, true, false}
 use lib.ListN.{length, drop}
 use lib.Dec.{eqb}
 use Rattle.laws.specs.Bytes.{bytes}
@@ -30,3 +30,12 @@ abbrev pub mayHave : ℕ → Mode → Bool
 mayHave port Ir = true
 mayHave port Sensor = true
 mayHave port IrBlaster = eqb port 3
+
+abbrev pub isSensor : Mode → Bool
+isSensor Ir = false
+isSensor Sensor = true
+isSensor IrBlaster = false
+
+-- "A fresh hub has every connector in mode IR"
+abbrev pub freshMode : ℕ → Mode
+freshMode port = Ir

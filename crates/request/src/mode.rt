@@ -1,6 +1,6 @@
 // A connector's mode.
 ghost use mathlib.Core.Path.{_≡_};
-ghost use Rattle.request.specs.Mode.{modeAt, mayHave};
+ghost use Rattle.request.specs.Mode.{modeAt, mayHave, isSensor, freshMode};
 
 pub enum Mode {
     Ir,
@@ -42,4 +42,22 @@ pub fn may_have(port: u64, mode: Mode) -> bool
         Mode::Sensor => true,
         Mode::IrBlaster => port == 3,
     }
+}
+
+// Whether a connector in a mode reads its contact, and sends nothing.
+pub fn is_sensor(mode: Mode) -> bool
+    ensures { λ r. ⌜ r ≡ isSensor mode ⌝ }
+{
+    match mode {
+        Mode::Ir => false,
+        Mode::Sensor => true,
+        Mode::IrBlaster => false,
+    }
+}
+
+// The mode of a fresh hub's connector.
+pub fn fresh_mode(port: u64) -> Mode
+    ensures { λ r. ⌜ r ≡ freshMode port ⌝ }
+{
+    Mode::Ir
 }

@@ -1,3 +1,4 @@
+-- `reply::put_address` meets its contract.
 use native.Mathlib.Omega.{arith}
 use Rattle.laws.proofs.Put.{then}
 use Rattle.text.proofs.Decimals.{decimal-most}
@@ -9,16 +10,16 @@ put-word-requires : tie.Need-put-word-requires
 put-word-requires c κs = search needs
 
 put-number-requires : tie.Need-put-number-requires
-put-number-requires c κs = omega (arith, decimal-most (c .before .before .before .before .before .before .before .args .m))
+put-number-requires c κs = omega (arith, decimal-most (c .before .before .before .before .before .before .before .args .place .m))
 
 slice-aggregate-put-word : tie.Need-slice-aggregate-put-word
 slice-aggregate-put-word c = search needs
 
 put-word-requires-2 : tie.Need-put-word-requires-2
-put-word-requires-2 c κs = omega (arith, decimal-most (c .before .before .before .before .before .before .before .before .before .before .before .before .args .m))
+put-word-requires-2 c κs = omega (arith, decimal-most (c .before .before .before .before .before .before .before .before .before .before .before .before .args .place .m))
 
 put-number-requires-2 : tie.Need-put-number-requires-2
-put-number-requires-2 c κs = omega (arith, decimal-most (c .before .before .before .before .before .before .before .before .before .before .before .before .before .before .before .before .args .m), decimal-most (c .before .before .before .before .before .before .before .before .before .before .before .before .before .before .before .before .args .port))
+put-number-requires-2 c κs = omega (arith, decimal-most (c .before .before .before .before .before .before .before .before .before .before .before .before .before .before .before .before .args .place .m), decimal-most (c .before .before .before .before .before .before .before .before .before .before .before .before .before .before .before .before .args .place .port))
 
 same-length : tie.Need-same-length
 same-length c = search needs
@@ -26,7 +27,7 @@ same-length c = search needs
 returns : tie.Need-returns
 returns c = (
   then (then (then (c .before .before .before .before .before .before .before .before .before .before .before .before .before .before .before .put-word .ensures) (c .before .before .before .before .before .before .before .before .before .before .before .put-number .ensures)) (c .before .before .before .before .before .before .put-word2 .ensures)) (c .before .before .put-number2 .ensures),
-  omega (arith, decimal-most (c .before .before .before .before .before .before .before .before .before .before .before .before .before .before .before .before .before .before .before .args .m), decimal-most (c .before .before .before .before .before .before .before .before .before .before .before .before .before .before .before .before .before .before .before .args .port)),
+  omega (arith, decimal-most (c .before .before .before .before .before .before .before .before .before .before .before .before .before .before .before .before .before .before .before .args .place .m), decimal-most (c .before .before .before .before .before .before .before .before .before .before .before .before .before .before .before .before .before .before .before .args .place .port)),
 )
 
 pub put-address-spec : {M : Type 1} → statement M

@@ -1,3 +1,4 @@
+-- `reply::put_last` meets its contract.
 use native.Mathlib.Omega.{arith}
 use Rattle.laws.proofs.Put.{then}
 use Rattle.text.proofs.Decimals.{decimal-most}

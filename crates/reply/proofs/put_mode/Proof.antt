@@ -1,3 +1,4 @@
+-- `reply::put_mode` meets its contract.
 use borrow.Author.Needs.{needs}
 use Rattle.reply.proofs.put_mode.Statement.{statement}
 use Rattle.reply.proofs.put_mode.Tie as tie

@@ -1,65 +1,77 @@
+-- `request::address::address_at` meets its contract.
+use Prim.Native.Nat.{_+_, _≤_}
 use mathlib.Core.Path.{sym, _∙_}
-use borrow.Author.Tests.{le-leb, lt-leb, eq-eqb, ne-eqb}
-use Rattle.request.specs.Address.{addressAt}
+use native.Mathlib.Omega.{arith}
+use denote.Ref.{now}
+use lib.ListN.{getD}
+use borrow.Author.Tests.{not-false}
+use Rattle.text.proofs.Reading.{digit-range}
+use Rattle.request.proofs.Shorts.{Short, short-is, short-read}
 use borrow.Author.Needs.{needs}
 use Rattle.request.proofs.address.address_at.Statement.{statement}
 use Rattle.request.proofs.address.address_at.Tie as tie
 
-part-at-requires : tie.Need-part-at-requires
-part-at-requires c κs = search needs
+-- behind the test the address is a short one
+short : (c : tie.Else1) → Short (now (c .before .before .before .args .s)) (c .before .before .before .args .at)
+short c = short-is _ _ (sym (c .before .is-short .ensures) ∙ not-false _ (c .if1 .left))
 
-enum-told : tie.Need-enum-told
-enum-told c = search needs
+m-range : (c : tie.Else1) → let a = c .before .before .before .args in
+    (48 ≤ getD (now (a .s)) (a .at) 0) × (getD (now (a .s)) (a .at) 0 ≤ 57)
+m-range c = digit-range _ (short c .m)
 
-enum-known-m : tie.Need-enum-known-m
-enum-known-m c = search needs
+port-range : (c : tie.Else1) → let a = c .before .before .before .args in
+    (48 ≤ getD (now (a .s)) (a .at + 2) 0) × (getD (now (a .s)) (a .at + 2) 0 ≤ 57)
+port-range c = digit-range _ (short c .port)
+
+is-short-requires : tie.Need-is-short-requires
+is-short-requires c κs = search needs
+
+long-at-requires : tie.Need-long-at-requires
+long-at-requires c κs = search needs
 
 returns : tie.Need-returns
-unfolding addressAt
-returns c = rw (sym (c .before .before .before .before .part-at .ensures) ∙ c .before .before .m .given .1, le-leb _ _ (c .if1 .taken))
+returns c = search needs
 
-shared-slice-read-if2 : tie.Need-shared-slice-read-if2
-shared-slice-read-if2 c = search needs
+shared-slice-read-m : tie.Need-shared-slice-read-m
+shared-slice-read-m c = let h = short (c .before) .room in omega arith
+
+sub-m : tie.Need-sub-m
+sub-m c = let h = m-range (c .before) in omega arith
+
+cast-m : tie.Need-cast-m
+cast-m c = let h = m-range (c .before) in omega arith
+
+add-port : tie.Need-add-port
+add-port c = let h = short (c .before) .room in omega arith
+
+shared-slice-read-port : tie.Need-shared-slice-read-port
+shared-slice-read-port c = let h = short (c .before .before) .room in omega arith
+
+sub-port : tie.Need-sub-port
+sub-port c = let h = port-range (c .before .before) in omega arith
+
+cast-port : tie.Need-cast-port
+cast-port c = let h = port-range (c .before .before) in omega arith
+
+add-t10 : tie.Need-add-t10
+add-t10 c = let h = short (c .before .before) .room in omega arith
 
 returns-2 : tie.Need-returns-2
-unfolding addressAt
-returns-2 c =
-    rw (
-      sym (c .before .before .before .before .before .before .part-at .ensures) ∙ c .before .before .before .before .m .given .1,
-      lt-leb _ _ (c .before .before .if1 .left),
-      ne-eqb _ _ (c .if2 .taken),
-    )
-
-add-port-at : tie.Need-add-port-at
-add-port-at c = search needs
-
-port-at-requires : tie.Need-port-at-requires
-port-at-requires c κs = search needs
-
-returns-3 : tie.Need-returns-3
-unfolding addressAt
-returns-3 c = rw (sym (c .before .before .part-at .ensures) ∙ c .enum-told .given .1)
-
-returns-4 : tie.Need-returns-4
-unfolding addressAt
-returns-4 c =
-    rw (
-      sym (c .before .before .before .before .before .before .before .part-at .ensures) ∙ c .before .before .before .before .before .m .given .1,
-      lt-leb _ _ (c .before .before .before .if1 .left),
-      eq-eqb _ _ (c .before .if2 .left),
-    ) (c .port-at .ensures)
+returns-2 c = sym (short-read _ _ (short (c .before .before)))
 
 pub address-at-spec : {M : Type 1} → statement M
 address-at-spec =
     tie.close
     (tie.spec
-    part-at-requires
-    enum-told
-    enum-known-m
+    is-short-requires
+    long-at-requires
     returns
-    shared-slice-read-if2
-    returns-2
-    add-port-at
-    port-at-requires
-    returns-3
-    returns-4)
+    shared-slice-read-m
+    sub-m
+    cast-m
+    add-port
+    shared-slice-read-port
+    sub-port
+    cast-port
+    add-t10
+    returns-2)

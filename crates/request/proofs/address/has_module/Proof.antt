@@ -1,3 +1,4 @@
+-- `request::address::has_module` meets its contract.
 use borrow.Author.Tests.{eq-eqb, ne-eqb}
 use borrow.Author.Needs.{needs}
 use Rattle.request.proofs.address.has_module.Statement.{statement}

@@ -1,3 +1,4 @@
+-- `request::address::part_at` meets its contract.
 use mathlib.Core.Path.{sym, _∙_}
 use Rattle.request.specs.Address.{partAt}
 use borrow.Author.Needs.{needs}

@@ -1,3 +1,4 @@
+-- `request::address::port_at` meets its contract.
 use mathlib.Core.Path.{sym, _∙_}
 use Rattle.request.specs.Address.{portAt}
 use borrow.Author.Needs.{needs}

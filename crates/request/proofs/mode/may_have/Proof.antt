@@ -1,3 +1,4 @@
+-- `request::mode::may_have` meets its contract.
 use borrow.Author.Needs.{needs}
 use Rattle.request.proofs.mode.may_have.Statement.{statement}
 use Rattle.request.proofs.mode.may_have.Tie as tie

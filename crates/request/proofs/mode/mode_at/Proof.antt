@@ -1,3 +1,4 @@
+-- `request::mode::mode_at` meets its contract.
 use Prim.Native.Nat.{_<_}
 use mathlib.Core.Path.{_≡_, sym, _∙_}
 use mathlib.Core.Bool.{false}

@@ -1,3 +1,4 @@
+-- `request::read::addressed` meets its contract.
 use mathlib.Core.Path.{_≡_}
 use denote.Ref.{now}
 use borrow.Author.Tests.{eq-eqb, ne-eqb}
@@ -26,8 +27,8 @@ enum-told c = search needs
 fault-requires : tie.Need-fault-requires
 fault-requires c κs = search needs
 
-enum-known-m : tie.Need-enum-known-m
-enum-known-m c = search needs
+enum-known-place : tie.Need-enum-known-place
+enum-known-place c = search needs
 
 address-fault-requires : tie.Need-address-fault-requires
 address-fault-requires c κs = search needs
@@ -39,7 +40,7 @@ returns : tie.Need-returns
 returns c =
     rw (
       address (c .before .before .before .before .before .before),
-      c .before .before .before .before .m .given .1,
+      c .before .before .before .before .place .given .1,
       ← c .before .before .address-fault .ensures,
       ne-eqb _ _ (c .before .if1 .taken),
     ) (c .fault2 .ensures)
@@ -54,7 +55,7 @@ returns-3 : tie.Need-returns-3
 returns-3 c =
     rw (
       address (c .before .before .before .before .before .before),
-      c .before .before .before .before .m .given .1,
+      c .before .before .before .before .place .given .1,
       ← c .before .before .address-fault .ensures,
       eq-eqb _ _ (c .before .if1 .left),
     ) (c .at-address .ensures)
@@ -68,7 +69,7 @@ addressed-spec =
     address-at-requires
     enum-told
     fault-requires
-    enum-known-m
+    enum-known-place
     address-fault-requires
     fault-requires-2
     returns

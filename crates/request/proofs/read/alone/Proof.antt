@@ -1,3 +1,4 @@
+-- `request::read::alone` meets its contract.
 use borrow.Author.Tests.{lt-ltb, le-ltb}
 use Rattle.request.specs.Request.{alone}
 use borrow.Author.Needs.{needs}

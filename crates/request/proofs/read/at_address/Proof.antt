@@ -1,3 +1,4 @@
+-- `request::read::at_address` meets its contract.
 use borrow.Author.Needs.{needs}
 use Rattle.request.proofs.read.at_address.Statement.{statement}
 use Rattle.request.proofs.read.at_address.Tie as tie
@@ -38,9 +39,6 @@ enum-told-5 c = search needs
 after-comma-requires-3 : tie.Need-after-comma-requires-3
 after-comma-requires-3 c κs = search needs
 
-sent-at-requires : tie.Need-sent-at-requires
-sent-at-requires c κs = search needs
-
 enum-told-6 : tie.Need-enum-told-6
 enum-told-6 c = search needs
 
@@ -60,7 +58,7 @@ returns-4 : tie.Need-returns-4
 returns-4 c = rw (c .before .enum-told4 .given .1) (c .get-state-at .ensures)
 
 returns-5 : tie.Need-returns-5
-returns-5 c = rw (c .before .before .enum-told5 .given .1) (cc)
+returns-5 c = rw (c .before .enum-told5 .given .1) (cc)
 
 returns-6 : tie.Need-returns-6
 returns-6 c = rw (c .before .enum-told6 .given .1) (c .alone2 .ensures)
@@ -81,7 +79,6 @@ at-address-spec =
     get-state-at-requires
     enum-told-5
     after-comma-requires-3
-    sent-at-requires
     enum-told-6
     alone-requires-2
     returns

@@ -1,3 +1,4 @@
+-- `request::read::get_state_at` meets its contract.
 use borrow.Author.Tests.{eq-eqb, ne-eqb}
 use Rattle.request.specs.Request.{getStateAt}
 use borrow.Author.Needs.{needs}

@@ -1,3 +1,4 @@
+-- `request::read::is_printable` meets its contract.
 use borrow.Author.Tests.{lt-ltb, le-ltb}
 use Rattle.request.proofs.read.is_printable.Statement.{statement}
 use Rattle.request.proofs.read.is_printable.Tie as tie

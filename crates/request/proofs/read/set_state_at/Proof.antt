@@ -1,3 +1,4 @@
+-- `request::read::set_state_at` meets its contract.
 use mathlib.Core.Path.{sym, _∙_}
 use Rattle.request.specs.Request.{setStateAt}
 use borrow.Author.Needs.{needs}

@@ -17,7 +17,7 @@ use Rattle.laws.proofs.Cutting.{leading-passes, leading-end}
 use Rattle.words.specs.declared.Pair.{Pair}
 use Rattle.words.specs.Digits.{isDigit, worth}
 use Rattle.words.specs.Pairs.{pair}
-use Rattle.meaning.specs.Line.{isNumber, within, isCount, isLetter, lettered, opening, on, due, off, spelling, Step, stop, go, lettering, Reading, faulty, sound, after, reads, codeIn}
+use Rattle.meaning.specs.Line.{isNumber, within, isCount, isLetter, lettered, opening, on, offDue, off, spelling, Stride, stop, go, lettering, Reading, faulty, sound, after, reads, codeIn}
 use Rattle.text.specs.Number.{run, numberOf, numberAt}
 use Rattle.code.specs.declared.next.Count.the-variants.{Bad, Good}
 use Rattle.code.specs.declared.next.Next.{Next}
@@ -25,8 +25,9 @@ use Rattle.code.specs.declared.next.After.the-variants.{Nothing, Spelling, Lett
 use Rattle.code.specs.Limits.{legal}
 use Rattle.code.specs.Next as next
 use Rattle.code.specs.Next.{countAt, paired, offAt, afterOn, spelledAt, letterAt, begunAt, nextPair}
-use Rattle.code.specs.Read.{onward, readFrom, readCode}
-use Rattle.lettered.proofs.Learnt.{lettered-more, learnt-again}
+use Rattle.code.specs.Read.{readOn, readFrom, readCode}
+use Rattle.code.proofs.Lettering.{learnt-again}
+use Rattle.lettered.proofs.Learnt.{lettered-more}
 use Rattle.reads.specs.Readings.{readingOf}
 
 -- the byte at a place, 0 behind the end
@@ -65,7 +66,7 @@ module _ (freq : ℕ) where
       (λ e. rw (e, append-nil, e))
 
   -- ---- behind a spelled pair: a letter, or the comma before another spelled pair
-  abbrev behindPair : List Pair → ℕ → Step
+  abbrev behindPair : List Pair → ℕ → Stride
   behindPair ps b = first ((isLetter b ⇒ lettering ps b) ∷ (eqb b 44 ⇒ go ps spelling) ∷ []) (stop 9)
 
   abbrev behindSpelled : List Pair → List ℕ → Reading
@@ -85,7 +86,7 @@ module _ (freq : ℕ) where
       → readingOf (readFrom (suc k) freq s qs (lettered qs) Spelling at) ≡ behindSpelled qs (drop at s))
       (room : suc k + length ps ≡ 260) where
     abbrev then : Next → Reading
-    then x = readingOf (onward (readFrom (suc k) freq s) ps (lettered ps) x)
+    then x = readingOf (readOn (readFrom (suc k) freq s) ps (lettered ps) x)
 
     count-some : (at c : ℕ) (w : List ℕ) → drop at s ≡ c ∷ w → isDigit c ≡ true
         → countAt freq s at ≡ cond (isCount freq (c ∷ run w)) (Good (worth 0 (c ∷ run w)) (at + suc (length (run w)))) Bad
@@ -105,7 +106,7 @@ module _ (freq : ℕ) where
     behind-run : (at c : ℕ) (w : List ℕ) → drop at s ≡ c ∷ w → drop (at + suc (length (run w))) s ≡ drop (length (run w)) w
     behind-run at c w e = sym (drop-drop (suc (length (run w))) at s) ∙ ap (drop (suc (length (run w)))) e
 
-    off-is : (n at : ℕ) (z : List ℕ) → drop at s ≡ z → then (offAt freq n s at) ≡ reads freq ps (due n) z
+    off-is : (n at : ℕ) (z : List ℕ) → drop at s ≡ z → then (offAt freq n s at) ≡ reads freq ps (offDue n) z
     unfolding offAt
     off-is n at [] e = rw (byte-of s at [] e, letter-is 0, count-none at [] e refl)
     off-is n at (c ∷ w) e =
@@ -158,10 +159,10 @@ module _ (freq : ℕ) where
   -- ---- what the reader makes of a digit and of a letter behind the pairs ps
   record Begun (s : List ℕ) (k : ℕ) (ps : List Pair) : Type 0 where
     digit : (at b : ℕ) (x : List ℕ) → drop at s ≡ b ∷ x → isDigit b ≡ true
-        → readingOf (onward (readFrom k freq s) ps (lettered ps) (spelledAt freq (length ps) s at))
+        → readingOf (readOn (readFrom k freq s) ps (lettered ps) (spelledAt freq (length ps) s at))
         ≡ after (cond (leb 260 (length ps)) (stop 20) (go ps (on (b ∷ [])))) (λ qs q. reads freq qs q x)
     letter : (at b : ℕ) (x : List ℕ) → drop at s ≡ b ∷ x
-        → readingOf (onward (readFrom k freq s) ps (lettered ps) (letterAt (length ps) (length (lettered ps)) b (at + 1)))
+        → readingOf (readOn (readFrom k freq s) ps (lettered ps) (letterAt (length ps) (length (lettered ps)) b (at + 1)))
         ≡ after (lettering ps b) (λ qs q. reads freq qs q x)
 
   -- what is left of the text behind the pairs ps, where there may be k more
@@ -172,7 +173,7 @@ module _ (freq : ℕ) where
 
   module _ (s : List ℕ) (k : ℕ) (ps : List Pair) (g : Begun s k ps) where
     begun-is : (at : ℕ) (x : List ℕ) → drop at s ≡ x
-        → readingOf (onward (readFrom k freq s) ps (lettered ps) (begunAt freq (length ps) s at)) ≡ reads freq ps spelling x
+        → readingOf (readOn (readFrom k freq s) ps (lettered ps) (begunAt freq (length ps) s at)) ≡ reads freq ps spelling x
     unfolding begunAt
     begun-is at [] e =
         let z : getD s at 0 ≡ 0 = byte-of s at [] e in

@@ -19,7 +19,7 @@ module _ (freq : ℕ) (text : List ℕ) where
     where
       go : (r : Reading) → readingOf r .fault ≡ none → r ≡ pairs (readingOf r .pairs)
       go (pairs ps) f = refl
-      go (fault n) f = absurd (Option·some-ne-none n f)
+      go (fault n found) f = absurd (Option·some-ne-none n f)
 
   -- a code that means pairs has no fault, and these
   pub means-accepted : (ps : List Pair) → Means freq text ps → codeIn freq text ≡ sound ps

@@ -27,6 +27,7 @@ use Rattle.request.specs.declared.address.Address.the-variants as address
 use Rattle.request.specs.declared.mode.Mode.{Mode}
 use Rattle.request.specs.declared.mode.Mode.the-variants.{Ir, Sensor, IrBlaster}
 use Rattle.request.specs.declared.mode.ModeRead.the-variants as mode
+use Rattle.request.specs.Place.{placeOf}
 use Rattle.request.specs.Address.{beyond, partOf, partAt, portRead, portAt, moduleRead, addressAt}
 use Rattle.request.specs.Mode.{modeAt, modeWord}
 
@@ -160,7 +161,7 @@ module _ (s : List ℕ) (at : ℕ) where
       (λ e. rw e (by-test (leb (length fieldAt) 6) (λ f. rw (f, ends-at, between-checks)) (λ f. rw f)))
       (λ e. rw e)
 
-  port-at : (m : ℕ) → portAt s m at ≡ cond (isNumber fieldAt) (address.At m (counts fieldAt) (at + length fieldAt)) address.Bad
+  port-at : (m : ℕ) → portAt s m at ≡ cond (isNumber fieldAt) (address.At (placeOf m (counts fieldAt)) (at + length fieldAt)) address.Bad
   unfolding portAt partAt
   port-at m =
       number-at (λ n. portRead s m (partOf n)) address.Bad refl (λ end e. rw e) (λ v end e. rw e)
@@ -238,7 +239,7 @@ module _ (s : List ℕ) (at : ℕ) where
   d = run (drop at s)
 
   abbrev addressOf : List ℕ → Address
-  addressOf f = cond (isAddress f) (address.At (counts (part 58 0 f)) (counts (part 58 1 f)) (at + length f)) address.Bad
+  addressOf f = cond (isAddress f) (address.At (placeOf (counts (part 58 0 f)) (counts (part 58 1 f))) (at + length f)) address.Bad
 
   some-digits : (x : List ℕ) → drop (length d) (drop at s) ≡ x → 1 ≤ length d
       → moduleRead s (partOf (Value (counts d) (at + length d))) ≡ addressOf (fieldAt s at)
@@ -267,7 +268,7 @@ module _ (s : List ℕ) (at : ℕ) where
       rw (below, byte, g, port-at s (at + length d + 1) (counts d), there, g-is, colon-address d (upTo 44 y) digits some)
       (by-test (isNumber (upTo 44 y))
       (λ n. rw (n, colon-module d (upTo 44 y) digits some, colon-port d (upTo 44 y) digits some n)
-      (ap (address.At (counts d) (counts (upTo 44 y))) (omega (arith, length-append d (58 ∷ upTo 44 y)))))
+      (ap (address.At (placeOf (counts d) (counts (upTo 44 y)))) (omega (arith, length-append d (58 ∷ upTo 44 y)))))
       (λ n. rw n)))
       (λ g. rw (below, byte, g, front, f, broken-no d b (upTo 44 y) digits (leading-end isDigit (drop at s) e) g)))
 
@@ -330,7 +331,7 @@ module _ {s : List ℕ} {k at : ℕ} (c : Cursor s k at) where
 
   pub address-is-at : addressAt s at
       ≡ cond (isAddress (part 44 k s))
-      (address.At (counts (part 58 0 (part 44 k s))) (counts (part 58 1 (part 44 k s))) (at + length (part 44 k s))) address.Bad
+      (address.At (placeOf (counts (part 58 0 (part 44 k s))) (counts (part 58 1 (part 44 k s)))) (at + length (part 44 k s))) address.Bad
   address-is-at = address-at s at ∙ rw field-is
 
   pub mode-is : modeAt s at ≡ cond (isMode (part 44 k s)) (mode.Known (modeIn (part 44 k s)) (at + length (part 44 k s))) mode.Unknown

@@ -1,5 +1,5 @@
 -- Each row of the table gives what the log makes of the request that the line is read as.
-use Prim.Native.Nat.{ℕ, suc, _+_, _%_, _<_}
+use Prim.Native.Nat.{ℕ, suc, _+_, _*_, _%_, _<_}
 use mathlib.Core.Path.{_≡_, refl, sym, ap, _∙_}
 use mathlib.Core.Bool.{true, false, cond, not, _&&_, _||_}
 use mathlib.Core.List.{List, [], _∷_}
@@ -11,10 +11,12 @@ use lib.Dec.{eqb, ltb, leb}
 use lib.ListN.{length}
 use Rattle.laws.specs.Checks.{_⇒_, first, between, isSome}
 use Rattle.laws.specs.Lists.{all, same, cut, part}
-use Rattle.laws.proofs.Choice.{by-test, and-left, and-right, same-test, between-true, between-least, between-most, between-is, between-checks}
+use Rattle.laws.proofs.Choice.{cond-case, by-test, and-left, and-right, same-test, between-true, between-least, between-most, between-is, between-checks}
 use Rattle.laws.proofs.Lists.{all-alike, same-is}
 use Rattle.laws.proofs.Cutting.{count}
 use Rattle.words.specs.Digits.{worth}
+use Rattle.words.specs.Places.{connectors, relays, portsOf}
+use Rattle.words.specs.declared.Pair.{Pair}
 use Rattle.words.specs.declared.Fields.{Fields}
 use Rattle.meaning.specs.Line.{is, isNumber, within, isAddress}
 use Rattle.meaning.specs.Log.{Deed}
@@ -24,19 +26,28 @@ use Rattle.text.specs.Field.{afterComma, fieldIs}
 use Rattle.code.specs.Read.{Reading, pairs, fault}
 use Rattle.request.specs.declared.name.Name.{Name}
 use Rattle.request.specs.declared.name.Name.the-variants as name
-use Rattle.request.specs.declared.name.NameRead.{NameRead}
-use Rattle.request.specs.declared.name.NameRead.the-variants.{Unknown, Known}
+use Rattle.request.specs.declared.name.Word.{Word}
+use Rattle.request.specs.declared.name.Word.the-variants.{Alone, Named}
+use Rattle.request.specs.declared.name.WordRead.{WordRead}
+use Rattle.request.specs.declared.name.WordRead.the-variants.{Unknown, Known}
 use Rattle.request.specs.declared.mode.Mode.{Mode}
 use Rattle.request.specs.declared.mode.Mode.the-variants.{Ir, Sensor, IrBlaster}
+use Rattle.request.specs.declared.Place.{Place}
+use Rattle.request.specs.declared.Fixed.{Fixed}
+use Rattle.request.specs.declared.Fixed.the-variants.{Devices, Version}
+use Rattle.request.specs.declared.Ask.the-variants.{SetMode, GetMode, GetContact, Stop}
+use Rattle.request.specs.declared.Turn.the-variants.{Set, Get}
 use Rattle.request.specs.declared.Request.{Request}
 use Rattle.request.specs.declared.Request.the-variants as request
-use Rattle.request.specs.Name.{getdevices, getversion, nameOf, nameAt}
+use Rattle.request.specs.Place.{placeOf}
+use Rattle.request.specs.Name.{fixedWord, nameOf, wordOf, wordAt}
 use Rattle.request.specs.Address.{beyond, hasModule, addressFault}
 use Rattle.request.specs.Mode.{modeWord, mayHave}
-use Rattle.request.specs.Fields.{capped, sentAt}
-use Rattle.request.specs.Request.{isPrintable, alone, setIrAt, setStateAt, getStateAt, atAddress, addressed, named, readRequest}
+use Rattle.request.specs.Request.{isPrintable, alone, setIrAt, setStateAt, getStateAt, atAddress, addressed, worded, asked, readRequest}
+use Rattle.command.specs.Fields.{capped, fieldsAt}
+use Rattle.command.specs.Read.{codeRead, codeAt, commandAt}
 use Rattle.reads.specs.Readings.{readingOf}
-use Rattle.reads.specs.Meant.{sensorAt, meantPairs, meantCode, meant}
+use Rattle.reads.specs.Meant.{sensorAt, meantCommand, meantRead, meant}
 use Rattle.reads.proofs.Cursor.{word-is, isMode, modeIn, word-back, counts, counts-within, Cursor, start, field-is, next, over, within-is, address-is-at, mode-is}
 use Rattle.reads.proofs.Bytewise.{code-bytewise}
 
@@ -55,6 +66,10 @@ two-modules m =
     (same-test (eqb m 2) (between 1 2 m)
     (λ f. between-true 1 2 m (omega (arith, eqb-true m 2 f)) (omega (arith, eqb-true m 2 f)))
     (λ f. eq-eqb m 2 (omega (arith, between-least 1 2 m f, between-most 1 2 m f, eqb-false m 1 e)))))
+
+-- no module has as many ports as a number of over six digits counts as
+ports-below : (m : ℕ) → portsOf m < beyond
+ports-below m = cond-case (λ (n : ℕ). n < beyond) (eqb m 1) connectors relays (λ e. omega arith) (λ e. omega arith)
 
 -- ---- a number in a range
 module _ (least most : ℕ) (f : List ℕ) (e : within least most f ≡ true) where
@@ -88,6 +103,9 @@ module _ (log : List Deed) (connection : ℕ) (s : List ℕ) where
   abbrev p : ℕ
   p = worth 0 (part 58 1 (field 1))
 
+  abbrev place : Place
+  place = placeOf m p
+
   -- what is made of a request
   abbrev makes : Request → Judged
   makes r = meant log connection s r
@@ -105,7 +123,7 @@ module _ (log : List Deed) (connection : ℕ) (s : List ℕ) where
   -- 017 for the address, 002, 003, and what comes behind
   address-row : (n : Name) (least most : ℕ) {rest : Judged} → nameOf n ≡ field 0
       → ((k : ℕ) → hasModule n k ≡ between least most k) → most < beyond
-      → ((at : ℕ) → Cursor s 1 at → between least most m ≡ true → makes (atAddress s n m p (at + length (field 1))) ≡ rest)
+      → ((at : ℕ) → Cursor s 1 at → between least most m ≡ true → makes (atAddress s n place (at + length (field 1))) ≡ rest)
       → first (table.address log connection s least most []) rest ≡ makes (addressed s n)
   unfolding addressed addressFault
   address-row n least most {rest} name range small go =
@@ -117,12 +135,16 @@ module _ (log : List Deed) (connection : ℕ) (s : List ℕ) where
         a,
         range (counts (part 58 0 (field 1))),
         ← counts-within least most (part 58 0 (field 1)) small (module-number (field 1) a),
-        between-checks 1 3 (counts (part 58 1 (field 1))),
-        ← counts-within 1 3 (part 58 1 (field 1)) (omega arith) (port-number (field 1) a),
       )
-      (by-test (within least most (part 58 0 (field 1))) (λ h. rw h
-      (by-test (within 1 3 (part 58 1 (field 1)))
-      (λ u. rw (u, within-few least most (part 58 0 (field 1)) h, within-few 1 3 (part 58 1 (field 1)) u)
+      (by-test (within least most (part 58 0 (field 1))) (λ h.
+      rw (
+        h,
+        within-few least most (part 58 0 (field 1)) h,
+        between-checks 1 (portsOf m) (counts (part 58 1 (field 1))),
+        ← counts-within 1 (portsOf m) (part 58 1 (field 1)) (ports-below m) (port-number (field 1) a),
+      )
+      (by-test (within 1 (portsOf m) (part 58 1 (field 1)))
+      (λ u. rw (u, within-few 1 (portsOf m) (part 58 1 (field 1)) u)
       (sym (go at c (within-range least most (part 58 0 (field 1)) h))))
       (λ u. rw u)))
       (λ h. rw h)))
@@ -131,7 +153,7 @@ module _ (log : List Deed) (connection : ℕ) (s : List ℕ) where
   -- a request that takes one module only
   one-row : (n : Name) (k : ℕ) {rest : Judged} → nameOf n ≡ field 0
       → ((j : ℕ) → hasModule n j ≡ eqb j k) → k < beyond
-      → ((at : ℕ) → Cursor s 1 at → m ≡ k → makes (atAddress s n m p (at + length (field 1))) ≡ rest)
+      → ((at : ℕ) → Cursor s 1 at → m ≡ k → makes (atAddress s n place (at + length (field 1))) ≡ rest)
       → first (table.address log connection s k k []) rest ≡ makes (addressed s n)
   one-row n k e has small go =
       address-row n k k e (λ j. has j ∙ one-module k j) small
@@ -139,11 +161,11 @@ module _ (log : List Deed) (connection : ℕ) (s : List ℕ) where
 
   get-IR-row : nameOf name.GetIr ≡ field 0 → Agrees (table.get-IR log connection s) (addressed s name.GetIr)
   unfolding table.get-IR
-  get-IR-row e = record { is = one-row name.GetIr 1 e (λ j. refl) (omega arith) (λ at c h. alone-row c (request.GetIr p)) }
+  get-IR-row e = record { is = one-row name.GetIr 1 e (λ j. refl) (omega arith) (λ at c h. alone-row c (request.Connector place GetMode)) }
 
   stopir-row : nameOf name.StopIr ≡ field 0 → Agrees (table.stopir log connection s) (addressed s name.StopIr)
   unfolding table.stopir
-  stopir-row e = record { is = one-row name.StopIr 1 e (λ j. refl) (omega arith) (λ at c h. rw h (alone-row c (request.StopIr p))) }
+  stopir-row e = record { is = one-row name.StopIr 1 e (λ j. refl) (omega arith) (λ at c h. rw h (alone-row c (request.Connector (placeOf 1 p) Stop))) }
 
   getstate-row : nameOf name.GetState ≡ field 0 → Agrees (table.getstate log connection s) (addressed s name.GetState)
   unfolding table.getstate getStateAt
@@ -152,8 +174,8 @@ module _ (log : List Deed) (connection : ℕ) (s : List ℕ) where
         is =
             address-row name.GetState 1 2 e two-modules (omega arith)
             (λ at c h. by-test (eqb m 1)
-            (λ f. rw (eqb-true m 1 f) (alone-row c (request.GetContact p)))
-            (λ f. rw (f, two f h) (alone-row c (request.GetRelay p))));
+            (λ f. rw (eqb-true m 1 f) (alone-row c (request.Connector (placeOf 1 p) GetContact)))
+            (λ f. rw (f, two f h) (alone-row c (request.Relay place Get))));
       }
     where
       two : eqb m 1 ≡ false → between 1 2 m ≡ true → eqb m 2 ≡ true
@@ -167,7 +189,7 @@ module _ (log : List Deed) (connection : ℕ) (s : List ℕ) where
             one-row name.SetState 2 e (λ j. refl) (omega arith)
             (λ at c h. rw (h, within-is (next c) 0 1)
             (by-test (within 0 1 (field 2))
-            (λ f. rw f (alone-row (next c) (request.SetState p (worth 0 (field 2)))))
+            (λ f. rw f (alone-row (next c) (request.Relay (placeOf 2 p) (Set (worth 0 (field 2))))))
             (λ f. rw f)));
       }
 
@@ -190,19 +212,23 @@ module _ (log : List Deed) (connection : ℕ) (s : List ℕ) where
             (λ f. rw (f, may-have f)
             (by-test (is "IR_BLASTER" (field 2) && not (eqb p 3))
             (λ g. rw g)
-            (λ g. rw g (alone-row (next c) (request.SetIr p (modeIn (field 2))) ∙ rw (word-back (field 2) f)))))
+            (λ g. rw g (alone-row (next c) (request.Connector (placeOf 1 p) (SetMode (modeIn (field 2)))) ∙ rw (word-back (field 2) f)))))
             (λ f. rw f)));
       }
 
+  -- what is made of pairs whose offset is yet to be judged
+  abbrev meantPairs : Fields → List Pair → Judged
+  meantPairs f ps = cond (not (ltb (f .offset) (2 * length ps))) (error 7 1 p) (meantCommand log connection p f ps)
+
   -- a code that was read, as checks
   code-row : (f : Fields) (code : Reading)
-      → meantCode log connection p f code
-      ≡ cond (isSome (readingOf code .fault)) (error (Option·getD (readingOf code .fault) 0) 1 p) (meantPairs log connection p f (readingOf code .pairs))
-  code-row f (pairs ps) = refl
-  code-row f (fault n) = refl
+      → meantRead log connection p (codeRead f code)
+      ≡ cond (isSome (readingOf code .fault)) (error (Option·getD (readingOf code .fault) 0) 1 p) (meantPairs f (readingOf code .pairs))
+  code-row f (pairs ps) = by-test (ltb (f .offset) (2 * length ps)) (λ e. rw e) (λ e. rw e)
+  code-row f (fault n ps) = refl
 
   sendir-row : nameOf name.SendIr ≡ field 0 → Agrees (table.sendir log connection s) (addressed s name.SendIr)
-  unfolding table.sendir sentAt capped
+  unfolding table.sendir commandAt codeAt fieldsAt capped
   sendir-row e =
       record {
         is = one-row name.SendIr 1 e (λ j. refl) (omega arith) (λ at c h. rw (h, within-is (next c) 0 65535)
@@ -224,41 +250,36 @@ module _ (log : List Deed) (connection : ℕ) (s : List ℕ) where
   first-row r w e =
       sym (alone-row (start s) r) ∙ ap (λ (n : ℕ). makes (alone s n r)) (zero-add (length (field 0)) ∙ ap length (sym e))
 
-  getdevices-row : getdevices ≡ field 0 → Agrees (table.getdevices log connection s) (alone s (length getdevices) request.GetDevices)
+  getdevices-row : fixedWord Devices ≡ field 0 → Agrees (table.getdevices log connection s) (worded s (Alone Devices))
   unfolding table.getdevices
-  getdevices-row e = record { is = first-row request.GetDevices getdevices e }
+  getdevices-row e = record { is = first-row (request.Fixed Devices) (fixedWord Devices) e }
 
-  getversion-row : getversion ≡ field 0 → Agrees (table.getversion log connection s) (alone s (length getversion) request.GetVersion)
+  getversion-row : fixedWord Version ≡ field 0 → Agrees (table.getversion log connection s) (worded s (Alone Version))
   unfolding table.getversion
-  getversion-row e = record { is = first-row request.GetVersion getversion e }
+  getversion-row e = record { is = first-row (request.Fixed Version) (fixedWord Version) e }
 
-  -- one name more
-  by-name : (w : List ℕ) {r q : Row} {asked other : Request} → (w ≡ field 0 → Agrees r asked) → Agrees q other
-      → Agrees (cond (same w (field 0)) r q) (cond (same w (field 0)) asked other)
-  by-name w f g = by-test (same w (field 0)) (λ t. rw t (f (same-is w (field 0) t))) (λ t. rw t g)
+  -- one word more
+  record AgreesWord (r : Row) (w : WordRead) : Type 0 where
+    is : Agrees r (asked s w)
 
-  -- the same for a name with an address
-  record AgreesNamed (r : Row) (n : NameRead) : Type 0 where
-    is : Agrees r (named s n)
-
-  by-address : (n : Name) {r q : Row} {other : NameRead} → (nameOf n ≡ field 0 → Agrees r (addressed s n)) → AgreesNamed q other
-      → AgreesNamed (cond (same (nameOf n) (field 0)) r q) (cond (same (nameOf n) (field 0)) (Known n) other)
-  by-address n f g =
-      by-test (same (nameOf n) (field 0)) (λ t. rw t (record { is = f (same-is (nameOf n) (field 0) t) })) (λ t. rw t g)
+  by-word : (w : Word) {r q : Row} {other : WordRead} → (wordOf w ≡ field 0 → Agrees r (worded s w)) → AgreesWord q other
+      → AgreesWord (cond (same (wordOf w) (field 0)) r q) (cond (same (wordOf w) (field 0)) (Known w) other)
+  by-word w f g =
+      by-test (same (wordOf w) (field 0)) (λ t. rw t (record { is = f (same-is (wordOf w) (field 0) t) })) (λ t. rw t g)
 
   -- 001 "the name up to the first comma is unknown"
-  unknown : AgreesNamed (table.row [] (no 1)) Unknown
+  unknown : AgreesWord (table.row [] (no 1)) Unknown
   unknown = record { is = record { is = refl } }
 
   request-row : ltb 4096 (length s) ≡ false → all (between 32 126) s ≡ true → Agrees (table.request log connection s) (readRequest s)
-  unfolding table.request readRequest nameAt
+  unfolding table.request readRequest wordAt
   request-row short plain =
       rw (
         short,
         all-alike isPrintable (between 32 126) (between-is 32 126) s,
         plain,
-        name-is getdevices refl,
-        name-is getversion refl,
+        name-is (fixedWord Devices) refl,
+        name-is (fixedWord Version) refl,
         name-is (nameOf name.SetIr) refl,
         name-is (nameOf name.GetIr) refl,
         name-is (nameOf name.SetState) refl,
@@ -266,14 +287,14 @@ module _ (log : List Deed) (connection : ℕ) (s : List ℕ) where
         name-is (nameOf name.SendIr) refl,
         name-is (nameOf name.StopIr) refl,
       )
-      (by-name getdevices getdevices-row
-      (by-name getversion getversion-row
-      (by-address name.SetIr set-IR-row
-      (by-address name.GetIr get-IR-row
-      (by-address name.SetState setstate-row
-      (by-address name.GetState getstate-row
-      (by-address name.SendIr sendir-row
-      (by-address name.StopIr stopir-row unknown))))) .is)))
+      (by-word (Alone Devices) getdevices-row
+      (by-word (Alone Version) getversion-row
+      (by-word (Named name.SetIr) set-IR-row
+      (by-word (Named name.GetIr) get-IR-row
+      (by-word (Named name.SetState) setstate-row
+      (by-word (Named name.GetState) getstate-row
+      (by-word (Named name.SendIr) sendir-row
+      (by-word (Named name.StopIr) stopir-row unknown))))))) .is)
 
   -- 015, and 001 for a byte
   too-long : ltb 4096 (length s) ≡ true → makes (readRequest s) ≡ no 15

@@ -4,4 +4,4 @@ use Rattle.code.specs.Read as code
 
 abbrev pub readingOf : code.Reading → Reading
 readingOf (code.pairs ps) = sound ps
-readingOf (code.fault n) = faulty n
+readingOf (code.fault n ps) = faulty n

@@ -20,7 +20,6 @@ use Rattle.code.specs.declared.next.After.the-variants.{Nothing, Spelling, Lett
 use Rattle.code.specs.Letters.{placeOf, learnt}
 use Rattle.code.specs.Limits.{legal, legalPair}
 use Rattle.words.specs.declared.Fields.{Fields}
-use Rattle.request.specs.Fields.{capped}
 use Rattle.lettered.specs.Lettered.{Item, spelled, letter, itemText, textOf}
 use Rattle.lettered.proofs.Written.{afterOf, front, front-letter, textFrom, text-from}
 use Rattle.writer.specs.declared.Form.{Form}
@@ -84,7 +83,7 @@ head-few {port} {f} code s =
       decimal-few port (s .port-small),
       decimal-few (f .id) (s .id-small),
       decimal-few (f .freq) (s .freq-small),
-      decimal-few (capped (f .repeat)) (s .repeat-small),
+      decimal-few (f .repeat) (s .repeat-small),
       decimal-few (f .offset) (s .offset-small),
     ))
 

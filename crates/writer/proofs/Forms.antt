@@ -13,10 +13,9 @@ use Rattle.laws.proofs.Choice.{by-test, and-true, not-both}
 use Rattle.words.specs.declared.Pair.{Pair}
 use Rattle.code.specs.Letters.{placeOf, has, learnt, lettersOf}
 use Rattle.code.specs.Next.{isLetter}
-use Rattle.code.proofs.Lettering.{place-is, learnt-few}
+use Rattle.code.proofs.Lettering.{place-within, place-is, learnt-few}
 use Rattle.lettered.specs.Lettered.{Item, lettered}
 use Rattle.lettered.proofs.Distinct.{letters-are}
-use Rattle.lettered.proofs.Learnt.{place-within}
 use Rattle.lettered.proofs.ItemsRead.{digit-no-letter}
 use Rattle.writer.specs.declared.Form.{Form}
 use Rattle.writer.specs.declared.Form.the-variants.{Plain, Lettered}

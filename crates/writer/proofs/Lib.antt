@@ -1,5 +1,4 @@
 pub mod Writing
-pub mod Giving
 pub mod Limits
 pub mod Sending
 pub mod ReadBack

@@ -1,56 +1,81 @@
 -- Laws of the writer of a sendir line: each refusal writes nothing, and the line is laid down whole.
-use Prim.Native.Nat.{ℕ, _*_, _≤_, _<_}
-use mathlib.Core.Path.{_≡_, sym, ap, _∙_}
+use Prim.Native.Nat.{ℕ, zero, suc, _+_, _*_, _≤_, _<_}
+use mathlib.Core.Path.{_≡_, refl, sym, ap, _∙_}
 use native.Mathlib.Nat.{zero-add}
-use mathlib.Core.Bool.{true, false}
+use native.Mathlib.Omega.{arith}
 use mathlib.Core.List.{List}
 use borrow.Author.Tests.{lt-ltb, le-ltb}
 use lib.ListN.{length}
+use Rattle.laws.specs.Lists.{numbers}
 use Rattle.laws.specs.Put.{Put}
 use Rattle.laws.proofs.Put.{over-nothing}
 use Rattle.words.specs.declared.Pair.{Pair}
-use Rattle.code.specs.Read.{pairs, fault}
+use Rattle.words.specs.declared.Fields.{Fields}
+use Rattle.words.specs.Pairs.{pairsOf, countsIn}
+use Rattle.words.proofs.Standing.{pairs-back}
+use Rattle.code.specs.Follows.{pairsAt}
+use Rattle.command.specs.declared.given.Command.{Command}
+use Rattle.command.specs.declared.read.CommandRead.the-variants.{Fault, Sent}
+use Rattle.command.specs.Read.{foundIn, CommandInto}
+use Rattle.command.specs.Given.{commandGiven}
+use Rattle.command.proofs.Commands.{fault-read, sent-read}
 use Rattle.writer.specs.declared.Form.{Form}
-use Rattle.writer.specs.declared.sendir.Command.{Command}
 use Rattle.writer.specs.declared.sendir.Written.the-variants.{Refused, Line}
-use Rattle.writer.specs.Given.{addressWithin, fieldsWithin, countsGiven}
-use Rattle.writer.specs.Sendir.{refused, outcome, sendirLine, Wrote}
+use Rattle.writer.specs.Sendir.{Small, refused, outcome, sendirLine, Wrote}
+use Rattle.writer.proofs.Limits.{Taken, given-taken, small}
 
-module _ {before : List ℕ} {form : Form} {c : Command} {counts : List ℕ} where
-  nothing : {number : ℕ} → outcome (length before) form c counts ≡ refused number → Wrote before form c counts before (Refused number)
+-- the pairs that stand in memory are those of the counts there
+pairs-standing : (memory : List ℕ) (i n : ℕ) → pairsAt memory i n ≡ pairsOf (numbers memory (2 * i) (2 * n))
+pairs-standing memory i zero = refl
+pairs-standing memory i (suc n) =
+    let two : 2 * suc n ≡ suc (suc (2 * n)) = omega arith in
+    let on : 2 * suc i ≡ suc (suc (2 * i)) = omega arith in
+    let off : 2 * i + 1 ≡ suc (2 * i) = omega arith in
+    rw (two, off, pairs-standing memory (suc i) n, on)
+
+module _ {before : List ℕ} {form : Form} {c : Command} {given : List ℕ} where
+  nothing : {number : ℕ} → outcome (length before) form c given ≡ refused number → Wrote before form c given before (Refused number)
   nothing e = record { answer = rw e; laid = rw e (sym (over-nothing before 0)) }
 
-  pub no-room : length before < 4096 → Wrote before form c counts before (Refused 105)
+  pub no-room : length before < 4096 → Wrote before form c given before (Refused 105)
   unfolding outcome
   no-room h = nothing (rw (lt-ltb (length before) 4096 h))
 
-  module _ (room : 4096 ≤ length before) where
-    pub no-address : addressWithin (c .m) (c .port) ≡ false → Wrote before form c counts before (Refused 106)
+module _ (c : Command) (given : List ℕ) {counts counts′ : List ℕ} where
+  -- a command that is refused
+  pub not-taken : {before : List ℕ} {form : Form} {number : ℕ} → 4096 ≤ length before → CommandInto (commandGiven c given) counts (Fault number) counts′
+      → Wrote before form c given before (Refused number)
+  unfolding outcome
+  not-taken {before} room k = nothing (rw (le-ltb (length before) 4096 room, fault-read (commandGiven c given) (k .result)))
+
+  -- one that is taken
+  module _ {f : Fields} {n : ℕ} (k : CommandInto (commandGiven c given) counts (Sent f n) counts′) where
+    abbrev ps : List Pair
+    ps = foundIn (commandGiven c given)
+
+    taken : Taken c given f ps
+    taken = given-taken c given f ps (sent-read (commandGiven c given) (k .result) .0)
+
+    pub head-small : Small (c .place .port) f
+    head-small = small (taken .place) (taken .accepts .fields)
+
+    pub few-pairs : n ≤ 260
+    few-pairs = omega (arith, taken .accepts .code .most, sent-read (commandGiven c given) (k .result) .1)
+
+    -- its pairs stand in memory
+    standing : pairsAt counts′ 0 n ≡ ps
+    unfolding countsIn
+    standing = pairs-standing counts′ 0 n ∙ rw (sent-read (commandGiven c given) (k .result) .1, k .front, pairs-back ps)
+
+    pub whole-line : {before after : List ℕ} {form : Form} {next : ℕ} → 4096 ≤ length before
+        → Put before 0 (sendirLine form (c .place) f (pairsAt counts′ 0 n)) after next → Wrote before form c given after (Line next)
     unfolding outcome
-    no-address a = nothing (rw (le-ltb (length before) 4096 room, a))
-
-    module _ (a : addressWithin (c .m) (c .port) ≡ true) where
-      pub no-fields : fieldsWithin (c .fields) ≡ false → Wrote before form c counts before (Refused 106)
-      unfolding outcome
-      no-fields f = nothing (rw (le-ltb (length before) 4096 room, a, f))
-
-      module _ (f : fieldsWithin (c .fields) ≡ true) where
-        pub no-counts : {number : ℕ} → countsGiven (c .fields .freq) counts ≡ fault number → Wrote before form c counts before (Refused number)
-        unfolding outcome
-        no-counts g = nothing (rw (le-ltb (length before) 4096 room, a, f, g))
-
-        module _ {ps : List Pair} (g : countsGiven (c .fields .freq) counts ≡ pairs ps) where
-          pub no-offset : 2 * length ps ≤ c .fields .offset → Wrote before form c counts before (Refused 106)
-          unfolding outcome
-          no-offset o = nothing (rw (le-ltb (length before) 4096 room, a, f, g, le-ltb (c .fields .offset) (2 * length ps) o))
-
-          pub whole-line : {after : List ℕ} {next : ℕ} → c .fields .offset < 2 * length ps
-              → Put before 0 (sendirLine form c ps) after next → Wrote before form c counts after (Line next)
-          unfolding outcome
-          whole-line o p =
-              record {
-                answer =
-                    ap Line (p .place ∙ zero-add (length (sendirLine form c ps)))
-                    ∙ rw (le-ltb (length before) 4096 room, a, f, g, lt-ltb (c .fields .offset) (2 * length ps) o);
-                laid = rw (le-ltb (length before) 4096 room, a, f, g, lt-ltb (c .fields .offset) (2 * length ps) o) (p .laid);
-              }
+    whole-line {before} {form = form} room q =
+        let p = rw standing at q in
+        let is = sent-read (commandGiven c given) (k .result) .0 in
+        record {
+          answer =
+              ap Line (p .place ∙ zero-add (length (sendirLine form (c .place) f ps)))
+              ∙ rw (le-ltb (length before) 4096 room, is);
+          laid = rw (le-ltb (length before) 4096 room, is) (p .laid);
+        }

@@ -2,12 +2,12 @@
 use Prim.Native.Nat.{ℕ, _+_, _-_, _*_, _≤_, _<_}
 use mathlib.Core.Path.{_≡_, refl, sym, ap, _∙_}
 use mathlib.Core.List.{List, [], _++_}
+use native.Mathlib.Nat.{sub-zero}
 use native.Mathlib.Omega.{arith}
 use borrow.Author.Tests.{lt-ltb, le-ltb}
-use lib.ListN.{length, take, drop, getD, set, length-append, length-set}
+use lib.ListN.{length, getD, set, length-append, length-set}
 use Rattle.laws.specs.Bytes.{bytes}
 use Rattle.laws.specs.Put.{Put}
-use Rattle.laws.proofs.Lists.{drop-take-next, drop-take-end}
 use Rattle.laws.proofs.Put.{nothing, then, byte}
 use Rattle.words.specs.Decimal.{decimal}
 use Rattle.words.specs.declared.Pair.{Pair}
@@ -16,8 +16,10 @@ use Rattle.code.specs.declared.next.After.{After}
 use Rattle.code.specs.declared.next.After.the-variants.{Nothing, Spelling, Lettering}
 use Rattle.words.specs.Pairs.{pair}
 use Rattle.code.specs.Letters.{noLetters, placeOf, learnt, held, Kept}
+use Rattle.code.specs.Follows.{pairsAt}
 use Rattle.lettered.specs.Lettered.{Item, letter, itemText}
-use Rattle.lettered.proofs.Learnt.{learnt-known}
+use Rattle.code.proofs.Lettering.{learnt-known}
+use Rattle.code.proofs.Follows.{pairs-next}
 use Rattle.lettered.proofs.Written.{afterOf, front, front-letter, textFrom, text-from}
 use Rattle.writer.specs.declared.Form.{Form}
 use Rattle.writer.specs.declared.Form.the-variants.{Plain, Lettered}
@@ -52,54 +54,52 @@ pair-length after on off =
     rw (length-append (comma after) (spelling (pair on off)), length-append (decimal on ++ bytes ",") (decimal off), length-append (decimal on) (bytes ","))
 
 -- ---- the loop: whatever is laid down behind, the whole is laid down
-pub record Writing (form : Form) (buf₀ : List ℕ) (at count : ℕ) (ps : List Pair) (buf : List ℕ) (t : Letters) (o : ℕ) (after : After) (j : ℕ) : Type 0 where
+pub record Writing (form : Form) (buf₀ : List ℕ) (at count : ℕ) (counts buf : List ℕ) (t : Letters) (o : ℕ) (after : After) (j : ℕ) : Type 0 where
   pub kept : Kept t (held t)
   pub within : j ≤ count
-  pub long : count ≤ length ps
   pub same : length buf ≡ length buf₀
   pub room : o + 14 * (count - j) ≤ length buf
-  pub goes : {b : List ℕ} {n : ℕ} → Put buf o (textFrom after (items form (held t) (drop j (take count ps)))) b n
-      → Put buf₀ at (codeText form (take count ps)) b n
+  pub goes : {b : List ℕ} {n : ℕ} → Put buf o (textFrom after (items form (held t) (pairsAt counts j (count - j)))) b n
+      → Put buf₀ at (codeText form (pairsAt counts 0 count)) b n
 
-pub writing-start : (form : Form) (buf : List ℕ) (at count : ℕ) (ps : List Pair) → count ≤ length ps → at + 14 * count ≤ length buf
-    → Writing form buf at count ps buf noLetters at Nothing 0
+pub writing-start : (form : Form) (buf : List ℕ) (at count : ℕ) (counts : List ℕ) → at + 14 * count ≤ length buf
+    → Writing form buf at count counts buf noLetters at Nothing 0
 unfolding codeText
-writing-start form buf at count ps l r =
+writing-start form buf at count counts r =
     record {
       kept = record { few = omega arith; counted = refl; are = refl };
       within = omega arith;
-      long = l;
       same = refl;
       room = omega arith;
-      goes = λ p. rw (text-from (items form [] (take count ps))) p;
+      goes = λ p. rw (text-from (items form [] (pairsAt counts 0 count))) (rw (sub-zero count) at p);
     }
 
-module _ {form : Form} {buf₀ : List ℕ} {at count : ℕ} {ps : List Pair} {buf : List ℕ} {t : Letters} {o : ℕ} {after : After} {j : ℕ}
-    (w : Writing form buf₀ at count ps buf t o after j) where
-  pub writing-end : count ≤ j → Put buf₀ at (codeText form (take count ps)) buf o
+module _ {form : Form} {buf₀ : List ℕ} {at count : ℕ} {counts buf : List ℕ} {t : Letters} {o : ℕ} {after : After} {j : ℕ}
+    (w : Writing form buf₀ at count counts buf t o after j) where
+  pub writing-end : count ≤ j → Put buf₀ at (codeText form (pairsAt counts 0 count)) buf o
   writing-end h =
-      w .goes (rw (drop-take-end ps count j (w .long) h) (nothing buf o (omega (arith, w .room))))
+      let none : count - j ≡ 0 = omega arith in
+      w .goes (rw none (nothing buf o (omega (arith, w .room))))
 
   module _ (h : j < count) where
     abbrev q : Pair
-    q = getD ps j (pair 0 0)
+    q = pair (getD counts (2 * j) 0) (getD counts (2 * j + 1) 0)
 
     -- one item of the text is written
     step : {x : Item} {t′ : Letters} {buf′ : List ℕ} {o′ : ℕ} → itemOf form (held t) q ≡ x → Kept t′ (learnt (held t) q)
         → Put buf o (front after x ++ itemText x) buf′ o′ → length buf′ ≡ length buf → o′ ≤ o + 14
-        → Writing form buf₀ at count ps buf′ t′ o′ (afterOf x) (j + 1)
+        → Writing form buf₀ at count counts buf′ t′ o′ (afterOf x) (j + 1)
     step e k p s r =
         record {
           kept = record { few = k .few; counted = k .counted; are = refl };
           within = omega arith;
-          long = w .long;
           same = s ∙ w .same;
           room = omega (arith, w .room);
-          goes = λ g. w .goes (rw (drop-take-next ps count j (pair 0 0) (w .long) h, e) (then p (rw (k .are) at g)));
+          goes = λ g. w .goes (rw (pairs-next counts j count h, e) (then p (rw (k .are) at g)));
         }
 
     pub writing-letter : {i : ℕ} → i ≡ placeOf q (held t) → i < inUse form (t .count)
-        → Writing form buf₀ at count ps (set buf o (65 + i)) t (o + 1) Lettering (j + 1)
+        → Writing form buf₀ at count counts (set buf o (65 + i)) t (o + 1) Lettering (j + 1)
     writing-letter {i} e l =
         let m : placeOf q (held t) < inUse form (length (held t)) = rw (w .kept .counted, ← e) l in
         let n : placeOf q (held t) < length (held t) = omega (arith, at-most form (length (held t))) in
@@ -109,6 +109,6 @@ module _ {form : Form} {buf₀ : List ℕ} {at count : ℕ} {ps : List Pair} {bu
 
     pub writing-spelled : {i o′ : ℕ} {t′ : Letters} {buf′ : List ℕ} → i ≡ placeOf q (held t) → inUse form (t .count) ≤ i
         → Put buf o (comma after ++ spelling q) buf′ o′ × (o′ ≤ o + 14) → length buf′ ≡ length buf → Kept t′ (learnt (held t) q)
-        → Writing form buf₀ at count ps buf′ t′ o′ Spelling (j + 1)
+        → Writing form buf₀ at count counts buf′ t′ o′ Spelling (j + 1)
     writing-spelled e l p s k =
         step (item-spelled form (held t) q (rw (w .kept .counted, ← e) l)) k (rw (front-comma after q) (p .0)) s (p .1)

@@ -1,4 +1,3 @@
 pub mod CodeText
-pub mod Given
 pub mod Sendir
 pub mod RoundTrip

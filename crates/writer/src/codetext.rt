@@ -7,9 +7,10 @@ use words::Pair;
 ghost use mathlib.Core.Path.{_≡_};
 ghost use mathlib.Core.List.{_++_};
 ghost use Prim.Native.Nat.{_+_, _*_, _≤_};
-ghost use lib.ListN.{length, take};
+ghost use lib.ListN.{length};
 ghost use Rattle.laws.specs.Put.{Put};
 ghost use Rattle.words.specs.Pairs.{pair};
+ghost use Rattle.code.specs.Follows.{pairsAt};
 ghost use Rattle.writer.specs.CodeText.{inUse, comma, spelling, codeText};
 
 // Of so many letters, those that the form uses.
@@ -47,23 +48,27 @@ fn put_spelled(buf: &mut [u8], at: usize, after: After, on: u16, off: u16) -> us
     text::write::put_number(buf, c, off as u64)
 }
 
-// The text of the first count pairs.
+// The text of the first count pairs that stand in memory.
 pub fn put_code(
     buf: &mut [u8],
     at: usize,
     form: Form,
     count: usize,
-    pairs: [Pair; Code::MOST_PAIRS],
+    counts: &[u16; Code::MOST_COUNTS],
 ) -> usize
     requires { ⌜ (count ≤ 260) × (at + 14 * count ≤ length (now buf)) ⌝ }
-    ensures { λ r. ⌜ Put (now (buf .entry)) at (codeText form (take count pairs)) (now (buf .exit)) r ⌝ }
+    ensures { λ r. ⌜ Put (now (buf .entry)) at (codeText form (pairsAt (now (counts .entry)) 0 count)) (now (buf .exit)) r ⌝ }
 {
     let mut letters = Letters::none();
     let mut o = at;
     let mut after = After::Nothing;
     let mut j: usize = 0;
     while j < count {
-        let p = pairs[j];
+        let first = 2 * j;
+        let p = Pair {
+            on: counts[first],
+            off: counts[first + 1],
+        };
         let i = code::letters::place_of(letters, p);
         if i < in_use(form, letters.count) {
             buf[o] = b'A' + (i % 15) as u8;

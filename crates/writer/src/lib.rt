@@ -7,5 +7,4 @@ pub enum Form {
 }
 
 mod codetext;
-mod given;
 pub mod sendir;

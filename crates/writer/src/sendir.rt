@@ -1,18 +1,13 @@
 // A sendir line, without its CR.
 use crate::Form;
-use code::CodeRead;
+use code::Code;
+use command::given::Command;
+use command::read::CommandRead;
 use words::Fields;
 ghost use Prim.Native.Nat.{_+_, _≤_, _<_};
 ghost use lib.ListN.{length};
 ghost use Rattle.laws.specs.Put.{Put};
 ghost use Rattle.writer.specs.Sendir.{Small, fieldText, sendirHead, Wrote};
-
-// Where a command goes, and its fields.
-pub struct Command {
-    pub m: u64,
-    pub port: u64,
-    pub fields: Fields,
-}
 
 // The length of the line that was written, or a refusal.
 pub enum Written {
@@ -43,35 +38,24 @@ fn put_head(buf: &mut [u8], port: u64, f: Fields) -> usize
     let b = put_field(buf, a, port);
     let c = put_field(buf, b, f.id);
     let d = put_field(buf, c, f.freq);
-    let e = put_field(buf, d, request::fields::capped(f.repeat));
+    let e = put_field(buf, d, f.repeat);
     put_field(buf, e, f.offset)
 }
 
 // The line of a command in either form, or 105, then 106, and nothing written.
-pub fn write_sendir(buf: &mut [u8], form: Form, command: Command, counts: &[u64]) -> Written
-    ensures { λ r. ⌜ Wrote (now (buf .entry)) form command (now (counts .entry)) (now (buf .exit)) r ⌝ }
+pub fn write_sendir(buf: &mut [u8], form: Form, command: Command, given: &[u64]) -> Written
+    ensures { λ r. ⌜ Wrote (now (buf .entry)) form command (now (given .entry)) (now (buf .exit)) r ⌝ }
 {
     if buf.len() < Written::ROOM {
         return Written::Refused(105);
     }
-    if !crate::given::address_within(command.m, command.port) {
-        return Written::Refused(106);
-    }
-    let f = command.fields;
-    if !crate::given::fields_within(f) {
-        return Written::Refused(106);
-    }
-    let code = crate::given::counts_given(f.freq, counts);
-    let read = code.read;
-    match read {
-        CodeRead::Fault(number) => Written::Refused(number),
-        CodeRead::Pairs(count) => {
-            if (2 * count) as u64 <= f.offset {
-                return Written::Refused(106);
-            }
-            let pairs = code.pairs;
-            let o = put_head(buf, command.port, f);
-            Written::Line(crate::codetext::put_code(buf, o, form, count, pairs))
+    let mut counts = [0u16; Code::MOST_COUNTS];
+    match command::given::command_given(command, given, &mut counts) {
+        CommandRead::Fault(number) => Written::Refused(number),
+        CommandRead::Sent(f, count) => {
+            let place = command.place;
+            let o = put_head(buf, place.port, f);
+            Written::Line(crate::codetext::put_code(buf, o, form, count, &counts))
         }
     }
 }

@@ -1,31 +1,44 @@
+-- `writer::codetext::put_code` meets its contract.
 use Prim.Native.Nat.{_-_, _+_, _%_}
 use mathlib.Core.Path.{_≡_}
 use native.Mathlib.Omega.{arith}
 use Rattle.writer.proofs.Writing.{Writing, writing-start, writing-end, writing-letter, writing-spelled, at-most}
+use borrow.Author.Needs.{needs}
 use Rattle.writer.proofs.codetext.put_code.Statement.{statement}
 use Rattle.writer.proofs.codetext.put_code.Tie as tie
-use borrow.Author.Needs.{needs}
 
 abbrev Inv-loop : tie.InvT-loop
-Inv-loop buf₀ at form count pairs letters₀ o₀ after₀ j₀ buf letters o after j = Writing form buf₀ at count pairs buf letters o after j
+Inv-loop buf₀ at form count counts letters₀ o₀ after₀ j₀ buf letters o after j = Writing form buf₀ at count counts buf letters o after j
 
 abbrev μ-loop : tie.MeasureT-loop
-μ-loop buf₀ at form count pairs letters₀ o₀ after₀ j₀ buf letters o after j = count - j
+μ-loop buf₀ at form count counts letters₀ o₀ after₀ j₀ buf letters o after j = count - j
 
 none-requires : tie.Need-none-requires Inv-loop μ-loop
 none-requires c κs = search needs
 
 loop-holds : tie.Need-loop-holds Inv-loop μ-loop
-loop-holds c = rw (c .none .ensures) (writing-start _ _ _ _ _ (search needs) (search needs))
+loop-holds c = rw (c .none .ensures) (writing-start _ _ _ _ _ (search needs))
 
-mul-p : tie.Need-mul-p Inv-loop μ-loop
-mul-p c = search needs
+mul-first : tie.Need-mul-first Inv-loop μ-loop
+mul-first c = search needs
 
-array-copy-out-p : tie.Need-array-copy-out-p Inv-loop μ-loop
-array-copy-out-p c = search needs
+mul-t14 : tie.Need-mul-t14 Inv-loop μ-loop
+mul-t14 c = search needs
+
+element-copy-out-t17 : tie.Need-element-copy-out-t17 Inv-loop μ-loop
+element-copy-out-t17 c = search needs
+
+add-t18 : tie.Need-add-t18 Inv-loop μ-loop
+add-t18 c = search needs
+
+mul-t19 : tie.Need-mul-t19 Inv-loop μ-loop
+mul-t19 c = search needs
+
+element-copy-out-t22 : tie.Need-element-copy-out-t22 Inv-loop μ-loop
+element-copy-out-t22 c = search needs
 
 place-of-requires : tie.Need-place-of-requires Inv-loop μ-loop
-place-of-requires c κs = c .before .before .loop .inv .kept .few
+place-of-requires c κs = search needs
 
 in-use-requires : tie.Need-in-use-requires Inv-loop μ-loop
 in-use-requires c κs = search needs
@@ -50,16 +63,17 @@ loop-less c = search needs
 
 loop-again : tie.Need-loop-again Inv-loop μ-loop
 loop-again c =
+    let inv = c .before .before .before .before .before .before .loop .inv in
     let h = rw (c .before .in-use .ensures) at (c .if1 .taken) in
     let e : 65 + c .before .before .place-of .result % 15 ≡ 65 + c .before .before .place-of .result =
-    omega (arith, at-most (c .before .before .before .before .before .before .before .before .args .form) (c .before .before .before .before .before .loop .letters .count), c .before .before .before .before .before .loop .inv .kept .few) in
-    rw e (writing-letter (c .before .before .before .before .before .loop .inv) (c .before .before .before .before .loop-test .taken) (c .before .before .place-of .ensures) h)
+    omega (arith, at-most (c .before .before .before .before .before .before .before .before .before .args .form) (c .before .before .before .before .before .before .loop .letters .count), inv .kept .few) in
+    rw e (writing-letter inv (c .before .before .before .before .before .loop-test .taken) (c .before .before .place-of .ensures) h)
 
 put-spelled-requires : tie.Need-put-spelled-requires Inv-loop μ-loop
-put-spelled-requires c κs = omega (arith, c .before .before .before .before .before .before .loop .inv .room, c .before .before .before .before .before .loop-test .taken)
+put-spelled-requires c κs = omega (arith, c .before .before .before .before .before .before .before .loop .inv .room, c .before .before .before .before .before .before .loop-test .taken)
 
 learn-requires : tie.Need-learn-requires Inv-loop μ-loop
-learn-requires c κs = c .before .before .before .before .before .before .before .before .before .loop .inv .kept .few
+learn-requires c κs = search needs
 
 add-j-2 : tie.Need-add-j-2 Inv-loop μ-loop
 add-j-2 c = search needs
@@ -68,7 +82,10 @@ loop-less-2 : tie.Need-loop-less-2 Inv-loop μ-loop
 loop-less-2 c = search needs
 
 loop-again-2 : tie.Need-loop-again-2 Inv-loop μ-loop
-loop-again-2 c = writing-spelled (c .before .before .before .before .before .before .before .before .before .before .loop .inv) (c .before .before .before .before .before .before .before .before .before .loop-test .taken) (c .before .before .before .before .before .before .before .place-of .ensures) (rw (c .before .before .before .before .before .before .in-use .ensures) at (c .before .before .before .before .before .if1 .left)) (c .before .before .before .put-spelled .ensures) (c .before .before .before .put-spelled .kept .0) (c .learn .ensures .kept)
+loop-again-2 c =
+    let inv = c .before .before .before .before .before .before .before .before .before .before .before .loop .inv in
+    let put = c .before .before .before .put-spelled in
+    writing-spelled inv (c .before .before .before .before .before .before .before .before .before .before .loop-test .taken) (c .before .before .before .before .before .before .before .place-of .ensures) (rw (c .before .before .before .before .before .before .in-use .ensures) at (c .before .before .before .before .before .if1 .left)) (put .ensures) (put .kept .0) (c .learn .ensures .kept (inv .kept .few))
 
 same-length : tie.Need-same-length Inv-loop μ-loop
 same-length c = search needs
@@ -84,8 +101,12 @@ put-code-spec =
     μ-loop
     none-requires
     loop-holds
-    mul-p
-    array-copy-out-p
+    mul-first
+    mul-t14
+    element-copy-out-t17
+    add-t18
+    mul-t19
+    element-copy-out-t22
     place-of-requires
     in-use-requires
     cast-buf

@@ -1,3 +1,4 @@
+-- `writer::codetext::put_comma` meets its contract.
 use native.Mathlib.Omega.{arith}
 use Rattle.laws.proofs.Put.{nothing, byte}
 use borrow.Author.Needs.{needs}

@@ -1,3 +1,4 @@
+-- `writer::sendir::put_head` meets its contract.
 use native.Mathlib.Omega.{arith}
 use Rattle.laws.proofs.Put.{then}
 use Rattle.writer.specs.Sendir.{sendirHead}
@@ -12,22 +13,44 @@ put-word-requires : tie.Need-put-word-requires
 put-word-requires c κs = search needs
 
 put-field-requires : tie.Need-put-field-requires
-put-field-requires c κs = (c .before .before .before .before .before .before .before .pre .0 .port-small, omega (arith, c .before .before .before .before .before .before .before .pre .1, c .before .before .before .put-word .ensures .place, c .before .before .before .put-word .kept .0))
+put-field-requires c κs =
+    let word = c .before .before .before in
+    let start = word .before .before .before .before in
+    (start .pre .0 .port-small, omega (arith, start .pre .1, word .put-word .ensures .place, word .put-word .kept .0))
 
 put-field-requires-2 : tie.Need-put-field-requires-2
-put-field-requires-2 c κs = (c .before .before .before .before .before .before .before .before .before .before .before .pre .0 .id-small, omega (arith, c .before .before .before .before .before .before .before .before .before .before .before .pre .1, c .before .before .before .before .before .before .before .put-word .ensures .place, c .before .before .before .before .before .before .before .put-word .kept .0, c .before .before .before .put-field .ensures .1, c .before .before .before .put-field .kept .0))
+put-field-requires-2 c κs =
+    let first = c .before .before .before in
+    let word = first .before .before .before .before in
+    let start = word .before .before .before .before in
+    (start .pre .0 .id-small, omega (arith, start .pre .1, word .put-word .ensures .place, word .put-word .kept .0, first .put-field .ensures .1, first .put-field .kept .0))
 
 put-field-requires-3 : tie.Need-put-field-requires-3
-put-field-requires-3 c κs = (c .before .before .before .before .before .before .before .before .before .before .before .before .before .before .before .pre .0 .freq-small, omega (arith, c .before .before .before .before .before .before .before .before .before .before .before .before .before .before .before .pre .1, c .before .before .before .before .before .before .before .before .before .before .before .put-word .ensures .place, c .before .before .before .before .before .before .before .before .before .before .before .put-word .kept .0, c .before .before .before .before .before .before .before .put-field .ensures .1, c .before .before .before .before .before .before .before .put-field .kept .0, c .before .before .before .put-field2 .ensures .1, c .before .before .before .put-field2 .kept .0))
-
-capped-requires : tie.Need-capped-requires
-capped-requires c κs = search needs
+put-field-requires-3 c κs =
+    let second = c .before .before .before in
+    let first = second .before .before .before .before in
+    let word = first .before .before .before .before in
+    let start = word .before .before .before .before in
+    (start .pre .0 .freq-small, omega (arith, start .pre .1, word .put-word .ensures .place, word .put-word .kept .0, first .put-field .ensures .1, first .put-field .kept .0, second .put-field2 .ensures .1, second .put-field2 .kept .0))
 
 put-field-requires-4 : tie.Need-put-field-requires-4
-put-field-requires-4 c κs = (rw (c .capped .ensures) (c .before .before .before .before .before .before .before .before .before .before .before .before .before .before .before .before .before .before .before .before .pre .0 .repeat-small), omega (arith, c .before .before .before .before .before .before .before .before .before .before .before .before .before .before .before .before .before .before .before .before .pre .1, c .before .before .before .before .before .before .before .before .before .before .before .before .before .before .before .before .put-word .ensures .place, c .before .before .before .before .before .before .before .before .before .before .before .before .before .before .before .before .put-word .kept .0, c .before .before .before .before .before .before .before .before .before .before .before .before .put-field .ensures .1, c .before .before .before .before .before .before .before .before .before .before .before .before .put-field .kept .0, c .before .before .before .before .before .before .before .before .put-field2 .ensures .1, c .before .before .before .before .before .before .before .before .put-field2 .kept .0, c .before .before .before .before .put-field3 .ensures .1, c .before .before .before .before .put-field3 .kept .0))
+put-field-requires-4 c κs =
+    let third = c .before .before .before in
+    let second = third .before .before .before .before in
+    let first = second .before .before .before .before in
+    let word = first .before .before .before .before in
+    let start = word .before .before .before .before in
+    (start .pre .0 .repeat-small, omega (arith, start .pre .1, word .put-word .ensures .place, word .put-word .kept .0, first .put-field .ensures .1, first .put-field .kept .0, second .put-field2 .ensures .1, second .put-field2 .kept .0, third .put-field3 .ensures .1, third .put-field3 .kept .0))
 
 put-field-requires-5 : tie.Need-put-field-requires-5
-put-field-requires-5 c κs = (c .before .before .before .before .before .before .before .before .before .before .before .before .before .before .before .before .before .before .before .before .before .before .before .before .pre .0 .offset-small, omega (arith, c .before .before .before .before .before .before .before .before .before .before .before .before .before .before .before .before .before .before .before .before .before .before .before .before .pre .1, c .before .before .before .before .before .before .before .before .before .before .before .before .before .before .before .before .before .before .before .before .put-word .ensures .place, c .before .before .before .before .before .before .before .before .before .before .before .before .before .before .before .before .before .before .before .before .put-word .kept .0, c .before .before .before .before .before .before .before .before .before .before .before .before .before .before .before .before .put-field .ensures .1, c .before .before .before .before .before .before .before .before .before .before .before .before .before .before .before .before .put-field .kept .0, c .before .before .before .before .before .before .before .before .before .before .before .before .put-field2 .ensures .1, c .before .before .before .before .before .before .before .before .before .before .before .before .put-field2 .kept .0, c .before .before .before .before .before .before .before .before .put-field3 .ensures .1, c .before .before .before .before .before .before .before .before .put-field3 .kept .0, c .before .before .before .put-field4 .ensures .1, c .before .before .before .put-field4 .kept .0))
+put-field-requires-5 c κs =
+    let fourth = c .before .before .before in
+    let third = fourth .before .before .before .before in
+    let second = third .before .before .before .before in
+    let first = second .before .before .before .before in
+    let word = first .before .before .before .before in
+    let start = word .before .before .before .before in
+    (start .pre .0 .offset-small, omega (arith, start .pre .1, word .put-word .ensures .place, word .put-word .kept .0, first .put-field .ensures .1, first .put-field .kept .0, second .put-field2 .ensures .1, second .put-field2 .kept .0, third .put-field3 .ensures .1, third .put-field3 .kept .0, fourth .put-field4 .ensures .1, fourth .put-field4 .kept .0))
 
 same-length : tie.Need-same-length
 same-length c = search needs
@@ -35,8 +58,14 @@ same-length c = search needs
 returns : tie.Need-returns
 unfolding sendirHead
 returns c =
-    let p = then (then (then (then (then (c .before .before .before .before .before .before .before .before .before .before .before .before .before .before .before .before .before .before .before .before .before .before .before .put-word .ensures) (c .before .before .before .before .before .before .before .before .before .before .before .before .before .before .before .before .before .before .before .put-field .ensures .0)) (c .before .before .before .before .before .before .before .before .before .before .before .before .before .before .before .put-field2 .ensures .0)) (c .before .before .before .before .before .before .before .before .before .before .before .put-field3 .ensures .0)) (rw (c .before .before .before .before .before .before .before .capped .ensures) at (c .before .before .before .before .before .before .put-field4 .ensures .0))) (c .before .before .put-field5 .ensures .0) in
-    (p, omega (arith, c .before .before .before .before .before .before .before .before .before .before .before .before .before .before .before .before .before .before .before .before .before .before .before .put-word .ensures .place, c .before .before .before .before .before .before .before .before .before .before .before .before .before .before .before .before .before .before .before .put-field .ensures .1, c .before .before .before .before .before .before .before .before .before .before .before .before .before .before .before .put-field2 .ensures .1, c .before .before .before .before .before .before .before .before .before .before .before .put-field3 .ensures .1, c .before .before .before .before .before .before .put-field4 .ensures .1, c .before .before .put-field5 .ensures .1))
+    let fifth = c .before .before in
+    let fourth = fifth .before .before .before .before in
+    let third = fourth .before .before .before .before in
+    let second = third .before .before .before .before in
+    let first = second .before .before .before .before in
+    let word = first .before .before .before .before in
+    let put = then (then (then (then (then (word .put-word .ensures) (first .put-field .ensures .0)) (second .put-field2 .ensures .0)) (third .put-field3 .ensures .0)) (fourth .put-field4 .ensures .0)) (fifth .put-field5 .ensures .0) in
+    (put, omega (arith, word .put-word .ensures .place, first .put-field .ensures .1, second .put-field2 .ensures .1, third .put-field3 .ensures .1, fourth .put-field4 .ensures .1, fifth .put-field5 .ensures .1))
 
 pub put-head-spec : {M : Type 1} → statement M
 put-head-spec =
@@ -47,7 +76,6 @@ put-head-spec =
     put-field-requires
     put-field-requires-2
     put-field-requires-3
-    capped-requires
     put-field-requires-4
     put-field-requires-5
     same-length

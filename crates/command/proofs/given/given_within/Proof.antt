@@ -1,36 +1,37 @@
+-- `command::given::given_within` meets its contract.
 use borrow.Author.Tests.{lt-ltb, le-ltb}
-use Rattle.writer.specs.Given.{fieldsWithin}
-use Rattle.writer.proofs.given.fields_within.Statement.{statement}
-use Rattle.writer.proofs.given.fields_within.Tie as tie
+use Rattle.command.specs.Given.{givenWithin}
+use Rattle.command.proofs.given.given_within.Statement.{statement}
+use Rattle.command.proofs.given.given_within.Tie as tie
 
 returns : tie.Need-returns
-unfolding fieldsWithin
+unfolding givenWithin
 returns c = rw (lt-ltb _ _ (c .if1 .taken))
 
 returns-2 : tie.Need-returns-2
-unfolding fieldsWithin
+unfolding givenWithin
 returns-2 c = rw (le-ltb _ _ (c .before .before .if1 .left), lt-ltb _ _ (c .if2 .taken))
 
 returns-3 : tie.Need-returns-3
-unfolding fieldsWithin
+unfolding givenWithin
 returns-3 c = rw (le-ltb _ _ (c .before .before .before .before .if1 .left), le-ltb _ _ (c .before .before .if2 .left), lt-ltb _ _ (c .if3 .taken))
 
 returns-4 : tie.Need-returns-4
-unfolding fieldsWithin
+unfolding givenWithin
 returns-4 c = rw (le-ltb _ _ (c .before .before .before .before .before .before .if1 .left), le-ltb _ _ (c .before .before .before .before .if2 .left), le-ltb _ _ (c .before .before .if3 .left), lt-ltb _ _ (c .if4 .taken))
 
 returns-5 : tie.Need-returns-5
-unfolding fieldsWithin
+unfolding givenWithin
 returns-5 c = rw (le-ltb _ _ (c .before .before .before .before .before .before .before .before .if1 .left), le-ltb _ _ (c .before .before .before .before .before .before .if2 .left), le-ltb _ _ (c .before .before .before .before .if3 .left), le-ltb _ _ (c .before .before .if4 .left), lt-ltb _ _ (c .if5 .taken))
 
 returns-6 : tie.Need-returns-6
-unfolding fieldsWithin
+unfolding givenWithin
 returns-6 c = rw (le-ltb _ _ (c .before .before .before .before .before .before .before .before .before .before .if1 .left), le-ltb _ _ (c .before .before .before .before .before .before .before .before .if2 .left), le-ltb _ _ (c .before .before .before .before .before .before .if3 .left), le-ltb _ _ (c .before .before .before .before .if4 .left), le-ltb _ _ (c .before .before .if5 .left), lt-ltb _ _ (c .if6 .taken))
 
 returns-7 : tie.Need-returns-7
-unfolding fieldsWithin
+unfolding givenWithin
 returns-7 c = rw (le-ltb _ _ (c .before .before .before .before .before .before .before .before .before .before .before .if1 .left), le-ltb _ _ (c .before .before .before .before .before .before .before .before .before .if2 .left), le-ltb _ _ (c .before .before .before .before .before .before .before .if3 .left), le-ltb _ _ (c .before .before .before .before .before .if4 .left), le-ltb _ _ (c .before .before .before .if5 .left), le-ltb _ _ (c .before .if6 .left))
 
-pub fields-within-spec : {M : Type 1} → statement M
-fields-within-spec =
+pub given-within-spec : {M : Type 1} → statement M
+given-within-spec =
     tie.close (tie.spec returns returns-2 returns-3 returns-4 returns-5 returns-6 returns-7)

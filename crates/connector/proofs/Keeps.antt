@@ -1,61 +1,83 @@
 -- Soundness of a connector: a fresh one has it, and whatever becomes of it keeps it.
-use Prim.Native.Nat.{ℕ, _+_, _*_, _/_, _≤_, _<_}
-use mathlib.Core.Path.{_≡_, refl}
+use Prim.Native.Nat.{ℕ, _+_, _*_, _/_}
+use mathlib.Core.Path.{_≡_, refl, sym, ap, _∙_}
+use mathlib.Core.Bool.{not}
 use mathlib.Core.List.{List}
 use native.Mathlib.Omega.{arith}
-use borrow.Author.Tests.{leb-false}
-use lib.Dec.{leb}
+use borrow.Author.Tests.{leb-false, ltb-false}
+use lib.Dec.{leb, ltb}
 use lib.ListN.{length, take, drop}
+use lib.Seq.{length-sets}
 use Rattle.laws.proofs.Choice.{cond-case}
+use Rattle.laws.proofs.Storing.{stores-stored}
 use Rattle.words.specs.declared.Pair.{Pair}
-use Rattle.code.specs.Accepted.{Accepted}
+use Rattle.words.specs.declared.Fields.{Fields}
+use Rattle.words.specs.Pairs.{countsOf}
 use Rattle.pace.specs.declared.Pace.{Pace}
 use Rattle.pace.specs.declared.Passed.{Passed}
 use Rattle.pace.specs.Pace.{SoundPace, periodsOf, endOf, passed}
 use Rattle.pace.proofs.Keeps.{started-sound, renewed-sound, moved-sound}
+use Rattle.pace.proofs.Lasting.{lead-high, tail-high, tail-low}
 use Rattle.request.specs.declared.mode.Mode.{Mode}
-use Rattle.words.specs.declared.Fields.{Fields}
-use Rattle.request.specs.Accepted.{FieldsWithin}
+use Rattle.request.specs.declared.Place.{Place}
+use Rattle.request.specs.declared.Ask.{Ask}
+use Rattle.request.specs.declared.Ask.the-variants as ask
+use Rattle.request.specs.Mode.{isSensor}
+use Rattle.command.specs.Read.{CommandReading, sent, faulty, commandAt, Accepts}
+use Rattle.command.proofs.Commands.{command-within}
 use Rattle.connector.specs.declared.Owner.{Owner}
 use Rattle.connector.specs.declared.Owner.the-variants.{Nobody}
+use Rattle.connector.specs.declared.Contact.{Contact}
+use Rattle.connector.specs.declared.Contact.the-variants.{Unread, Read}
 use Rattle.connector.specs.declared.Run.{Run}
 use Rattle.connector.specs.declared.Sending.{Sending}
 use Rattle.connector.specs.declared.Sending.the-variants.{Idle, Running}
 use Rattle.connector.specs.declared.Connector.{Connector}
-use Rattle.connector.specs.Record.{freshConnector, SoundRun, SoundSending, SoundConnector}
-use Rattle.connector.specs.Change.{sameMode, withMode, withReading, started, renewedSending, renewed, stopped, owns, toldOf, disowned}
-use Rattle.connector.specs.Send.{runOf}
-use Rattle.connector.specs.Pass.{pacedRun, passedRun, passedSending, passedConnector}
-use Rattle.pace.proofs.Lasting.{lead-high, tail-high, tail-low}
+use Rattle.connector.specs.declared.Change.{Change}
+use Rattle.connector.specs.declared.Change.the-variants.{Nothing, Becomes}
+use Rattle.connector.specs.declared.Stepped.{Stepped}
+use Rattle.connector.specs.declared.send.Verdict.{Verdict}
+use Rattle.connector.specs.declared.send.Verdict.the-variants as verdict
+use Rattle.connector.specs.Record.{freshConnector, SoundRun, SoundSending, SoundConnector, SoundChange, changed}
+use Rattle.connector.specs.Change.{sameMode, withMode, renewedSending, renewed, isRunning, stopped, owns, ownerLeft, disowned}
+use Rattle.connector.specs.Send.{runOf, verdictOf}
+use Rattle.connector.specs.Step.{Made, setMode, contactSays, getContact, stops, byVerdict, commandStep, commandRead, sendStep, stepOf}
+use Rattle.connector.specs.Reading.{readingStep}
+use Rattle.connector.specs.Pass.{pacedRun, passingRun, passingSending, passing, after}
 
-pub fresh-connector : SoundConnector freshConnector
-fresh-connector = record { sends = refl; reads = tt }
+-- a connector that wakes is sound
+pub fresh-connector : (mode : Mode) → SoundConnector (freshConnector mode)
+fresh-connector mode = record { sends = refl; reads = tt }
 
-pub reading-connector : {c : Connector} {value : ℕ} → SoundConnector c → value ≤ 1 → SoundConnector (withReading c value)
-reading-connector k v = record { sends = k .sends; reads = v }
+-- what a change makes of a sound connector
+pub changed-sound : (c : Connector) (change : Change) → SoundConnector c → SoundChange change → SoundConnector (changed c change)
+changed-sound c Nothing k s = k
+changed-sound c (Becomes next) k s = s
 
-pub mode-connector : (c : Connector) (mode : Mode) → SoundConnector c → SoundConnector (withMode c mode)
+-- ---- the records that it may become
+
+-- in another mode
+mode-connector : (c : Connector) (mode : Mode) → SoundConnector c → SoundConnector (withMode c mode)
 unfolding withMode
 mode-connector c mode k =
     cond-case SoundConnector (sameMode (c .mode) mode) c _ (λ _. k) (λ _. record { sends = k .sends; reads = tt })
 
-pub stopped-connector : {c : Connector} → SoundConnector c → SoundConnector (stopped c)
+-- idle, with no owner
+stopped-connector : {c : Connector} → SoundConnector c → SoundConnector (stopped c)
 stopped-connector k = record { sends = refl; reads = k .reads }
 
+-- what is sent is sound whoever is left to own it
 disowned-sends : (sending : Sending) (owner : Owner) (connection : ℕ) → SoundSending sending owner
-    → SoundSending sending (toldOf owner connection)
-unfolding toldOf
+    → SoundSending sending (ownerLeft owner connection)
+unfolding ownerLeft
 disowned-sends Idle owner connection s =
     cond-case (λ (o : Owner). o ≡ Nobody) (owns owner connection) Nobody owner (λ _. refl) (λ _. s)
 disowned-sends (Running r) owner connection s = s
 
+-- without an owner who has left
 pub disowned-connector : (c : Connector) (connection : ℕ) → SoundConnector c → SoundConnector (disowned c connection)
 disowned-connector c connection k =
     record { sends = disowned-sends (c .sending) (c .owner) connection (k .sends); reads = k .reads }
-
--- with a sound transmission
-pub started-connector : {c : Connector} {connection : ℕ} {r : Run} → SoundConnector c → SoundRun r → SoundConnector (started c connection r)
-started-connector k r = record { sends = r; reads = k .reads }
 
 -- the same transmission, further on
 paced-run : {r : Run} {p : Pace} → SoundRun r → SoundPace p → SoundRun (pacedRun r p)
@@ -69,6 +91,7 @@ paced-run s paced =
       few = s .few;
     }
 
+-- with its transmission renewed
 pub renewed-connector : (c : Connector) → SoundConnector c → SoundConnector (renewed c)
 renewed-connector c k = go (c .sending) (k .sends)
   where
@@ -80,14 +103,17 @@ renewed-connector c k = go (c .sending) (k .sends)
           reads = k .reads;
         }
 
-pub passed-connector : (c : Connector) (port n : ℕ) → SoundConnector c → SoundConnector (passedConnector c port n .connector)
+-- ---- time
+
+-- some microseconds later
+pub passed-connector : (c : Connector) (place : Place) (n : ℕ) → SoundConnector c → SoundConnector (after c (passing c place n))
 unfolding passed
-passed-connector c port n k = go (c .sending) (k .sends)
+passed-connector c place n k = go (c .sending) (k .sends)
   where
-    go : (sending : Sending) → SoundSending sending (c .owner) → SoundConnector (passedSending c port n sending .connector)
+    go : (sending : Sending) → SoundSending sending (c .owner) → SoundConnector (after c (passingSending c place n sending))
     go Idle s = k
     go (Running r) s =
-        cond-case (λ (x : Passed). SoundConnector (passedRun c port r x .connector))
+        cond-case (λ (x : Passed). SoundConnector (after c (passingRun c place r x)))
         (leb (endOf (r .pace)) (r .pace .at .0 + n * r .fields .freq)) _ _
         (λ _. stopped-connector k)
         (λ e.
@@ -96,18 +122,120 @@ passed-connector c port n k = go (c .sending) (k .sends)
           reads = k .reads;
         })
 
+-- ---- a contact reading
+
+-- what a reading makes of it
+pub reading-sound : (c : Connector) (value : ℕ) → SoundConnector c → SoundChange (readingStep c value .change)
+unfolding readingStep
+reading-sound c value k =
+    let P : Stepped → Type 0 = λ s. SoundChange (s .change) in
+    cond-case P (not (isSensor (c .mode))) _ _ (λ _. tt) λ _.
+    cond-case P (ltb 1 value) _ _ (λ _. tt) λ e.
+    record { sends = k .sends; reads = ltb-false 1 value e }
+
+-- ---- what is asked of it
+
 -- what a sendir starts
-pub run-sound : (f : Fields) (ps : List Pair) → FieldsWithin f → Accepted (f .freq) ps → f .offset < 2 * length ps → SoundRun (runOf f ps)
+pub run-sound : (f : Fields) (ps : List Pair) → Accepts f ps → SoundRun (runOf f ps)
 unfolding runOf
-run-sound f ps w a inside =
+run-sound f ps a =
     let k = f .offset / 2 in
     record {
       paced =
-          started-sound (periodsOf (take k ps)) (periodsOf (drop k ps)) (f .repeat) (lead-high a k)
-          (tail-low a k (omega arith)) (tail-high a k) (w .repeat-least) (w .repeat-most);
-      freq-low = w .freq-least;
-      freq-high = w .freq-most;
-      repeat-low = w .repeat-least;
-      repeat-high = w .repeat-most;
-      few = a .most;
+          started-sound (periodsOf (take k ps)) (periodsOf (drop k ps)) (f .repeat) (lead-high (a .code) k)
+          (tail-low (a .code) k (omega (arith, a .offset))) (tail-high (a .code) k) (a .fields .repeat-least) (a .fields .repeat-most);
+      freq-low = a .fields .freq-least;
+      freq-high = a .fields .freq-most;
+      repeat-low = a .fields .repeat-least;
+      repeat-high = a .fields .repeat-most;
+      few = a .code .most;
     }
+
+module _ (c : Connector) (kept : List ℕ) (connection : ℕ) (text : List ℕ) (place : Place) where
+  -- what is made of it is sound
+  abbrev StillSound : Made → Type 0
+  StillSound made = SoundChange (made .stepped .change)
+
+  module _ (k : SoundConnector c) where
+    -- a set_IR
+    mode-sound : (mode : Mode) → SoundChange (setMode c place mode .change)
+    unfolding setMode
+    mode-sound mode =
+        cond-case (λ (s : Stepped). SoundChange (s .change)) (isRunning (c .sending)) _ _ (λ _. tt) (λ _. mode-connector c mode k)
+
+    -- a getstate
+    contact-sound : SoundChange (getContact c place .change)
+    unfolding getContact
+    contact-sound =
+        cond-case (λ (s : Stepped). SoundChange (s .change)) (not (isSensor (c .mode))) _ _ (λ _. tt) (λ _. go (c .contact))
+      where
+        go : (contact : Contact) → SoundChange (contactSays place contact .change)
+        go Unread = tt
+        go (Read value) = tt
+
+    -- a stopir
+    stop-sound : SoundChange (stops c connection place .change)
+    unfolding stops
+    stop-sound = cond-case (λ (s : Stepped). SoundChange (s .change)) (isSensor (c .mode)) _ _ (λ _. tt) (λ _. stopped-connector k)
+
+    -- a sendir without a fault, by its verdict
+    command-sound : (f : Fields) (ps : List Pair) → Accepts f ps → StillSound (commandStep c kept connection place f ps)
+    unfolding commandStep
+    command-sound f ps a = go (verdictOf c kept connection f ps)
+      where
+        go : (v : Verdict) → StillSound (byVerdict c kept connection place f ps v)
+        go verdict.Start = record { sends = run-sound f ps a; reads = k .reads }
+        go verdict.Renew = renewed-connector c k
+        go verdict.Busy = tt
+
+    -- one that was read
+    read-sound : (at : ℕ) (r : CommandReading) → commandAt text at ≡ r → StillSound (commandRead c kept connection place r)
+    read-sound at (faulty number found) e = tt
+    read-sound at (sent f ps) e = command-sound f ps (command-within text at f ps e)
+
+    -- any sendir
+    send-sound : (at : ℕ) → StillSound (sendStep c kept connection text place at)
+    unfolding sendStep
+    send-sound at = cond-case StillSound (isSensor (c .mode)) _ _ (λ _. tt) (λ _. read-sound at (commandAt text at) refl)
+
+    -- whatever is asked
+    pub step-sound : (asked : Ask) → SoundChange (stepOf c kept connection text place asked .stepped .change)
+    step-sound (ask.SetMode mode) = mode-sound mode
+    step-sound ask.GetMode = tt
+    step-sound ask.GetContact = contact-sound
+    step-sound (ask.Send at) = send-sound at
+    step-sound ask.Stop = stop-sound
+
+  -- ---- the counts stay as many
+
+  -- those that are made are as many as those kept
+  abbrev AsMany : Made → Type 0
+  AsMany made = length (made .kept) ≡ length kept
+
+  -- a sendir without a fault, by its verdict
+  command-size : (f : Fields) (ps : List Pair) → AsMany (commandStep c kept connection place f ps)
+  unfolding commandStep
+  command-size f ps = go (verdictOf c kept connection f ps)
+    where
+      go : (v : Verdict) → AsMany (byVerdict c kept connection place f ps v)
+      go verdict.Start = ap length (sym (stores-stored kept 0 (countsOf ps))) ∙ length-sets kept 0 (countsOf ps)
+      go verdict.Renew = refl
+      go verdict.Busy = refl
+
+  -- one that was read
+  read-size : (r : CommandReading) → AsMany (commandRead c kept connection place r)
+  read-size (faulty number found) = refl
+  read-size (sent f ps) = command-size f ps
+
+  -- any sendir
+  send-size : (at : ℕ) → AsMany (sendStep c kept connection text place at)
+  unfolding sendStep
+  send-size at = cond-case AsMany (isSensor (c .mode)) _ _ (λ _. refl) (λ _. read-size (commandAt text at))
+
+  -- whatever is asked
+  pub step-size : (asked : Ask) → length (stepOf c kept connection text place asked .kept) ≡ length kept
+  step-size (ask.SetMode mode) = refl
+  step-size ask.GetMode = refl
+  step-size ask.GetContact = refl
+  step-size (ask.Send at) = send-size at
+  step-size ask.Stop = refl

@@ -1,4 +1,4 @@
-pub mod Deciding
 pub mod Keeps
+pub mod Deciding
+pub mod Refusals
 pub mod Contacts
-pub mod Completing

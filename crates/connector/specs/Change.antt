@@ -1,13 +1,10 @@
--- What becomes of one connector, the same for each of them.
+-- The records that a connector may become, the same for each of them.
 use Prim.Native.Nat.{ℕ}
-use mathlib.Core.Bool.{Bool, true, false, cond, not}
-use mathlib.Core.List.{[], _∷_}
+use mathlib.Core.Bool.{Bool, true, false, cond}
 use lib.Dec.{eqb}
-use Rattle.laws.specs.Checks.{_⇒_, first}
 use Rattle.pace.specs.Pace as pace
 use Rattle.request.specs.declared.mode.Mode.{Mode}
 use Rattle.request.specs.declared.mode.Mode.the-variants.{Ir, Sensor, IrBlaster}
-use Rattle.words.specs.declared.Fields.{Fields}
 use Rattle.connector.specs.declared.Owner.{Owner}
 use Rattle.connector.specs.declared.Owner.the-variants.{Nobody, Connection}
 use Rattle.connector.specs.declared.Contact.the-variants.{Unread, Read}
@@ -36,12 +33,9 @@ withMode c mode =
 abbrev pub withReading : Connector → ℕ → Connector
 withReading c value = record { owner = c .owner; mode = c .mode; contact = Read value; sending = c .sending }
 
+-- the same mode and contact, with another transmission or none
 abbrev pub withSending : Connector → Owner → Sending → Connector
 withSending c owner sending = record { owner = owner; mode = c .mode; contact = c .contact; sending = sending }
-
--- "sendir to an idle connector starts with the sender as owner"
-abbrev pub started : Connector → ℕ → Run → Connector
-started c connection run = withSending c (Connection connection) (Running run)
 
 -- a renewal, with the command's own repeat
 abbrev pub renewedRun : Run → Run
@@ -65,18 +59,9 @@ abbrev pub owns : Owner → ℕ → Bool
 owns Nobody connection = false
 owns (Connection number) connection = eqb number connection
 
--- "the same to the owner of a halted transmission, if another connection"; also the owner that is left once a connection is closed
-unfoldable pub toldOf : Owner → ℕ → Owner
-toldOf owner connection = cond (owns owner connection) Nobody owner
+-- "Closing a connection .. its transmissions run on with no owner": who owns one then
+unfoldable pub ownerLeft : Owner → ℕ → Owner
+ownerLeft owner connection = cond (owns owner connection) Nobody owner
 
--- "its transmissions run on with no owner"
 abbrev pub disowned : Connector → ℕ → Connector
-disowned c connection = withSending c (toldOf (c .owner) connection) (c .sending)
-
--- "equal id, freq, capped repeat, offset"
-unfoldable pub sameFields : Fields → Fields → Bool
-sameFields a b = first
-    ((not (eqb (a .id) (b .id)) ⇒ false)
-    ∷ (not (eqb (a .freq) (b .freq)) ⇒ false)
-    ∷ (not (eqb (a .repeat) (b .repeat)) ⇒ false)
-    ∷ []) (eqb (a .offset) (b .offset))
+disowned c connection = withSending c (ownerLeft (c .owner) connection) (c .sending)

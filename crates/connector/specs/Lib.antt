@@ -1,6 +1,8 @@
 pub mod Record
 pub mod Change
 pub mod Send
+pub mod Step
+pub mod Reading
 pub mod Pass
 pub mod Carrier
-pub mod Completions
+pub mod Refusals

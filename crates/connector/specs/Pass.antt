@@ -1,33 +1,46 @@
 -- Time on a connector.
 use Prim.Native.Nat.{ℕ}
+use mathlib.Core.List.{List, [], _∷_}
 use Rattle.pace.specs.declared.Passed.{Passed}
 use Rattle.pace.specs.declared.Passed.the-variants as passed
 use Rattle.pace.specs.declared.Micros.{Micros}
 use Rattle.pace.specs.declared.Pace.{Pace}
 use Rattle.pace.specs.Pace as pace
+use Rattle.request.specs.declared.Place.{Place}
 use Rattle.connector.specs.declared.Completion.{Completion}
 use Rattle.connector.specs.declared.Run.{Run}
 use Rattle.connector.specs.declared.Sending.{Sending}
-use Rattle.connector.specs.declared.Sending.the-variants.{Idle, Running}
+use Rattle.connector.specs.declared.Sending.the-variants as sending
 use Rattle.connector.specs.declared.Connector.{Connector}
-use Rattle.connector.specs.declared.pass.Done.the-variants.{Nothing, Complete}
-use Rattle.connector.specs.declared.pass.ConnectorPassed.{ConnectorPassed}
+use Rattle.connector.specs.declared.pass.Passing.{Passing}
+use Rattle.connector.specs.declared.pass.Passing.the-variants.{Idle, Running, Complete}
 use Rattle.connector.specs.Change.{withSending, stopped}
 
-abbrev pub completionOf : Connector → ℕ → Run → Micros → Completion
-completionOf c port r moment = record { owner = c .owner; moment = moment; port = port; id = r .fields .id }
+abbrev pub completionOf : Connector → Place → Run → Micros → Completion
+completionOf c place r moment = record { owner = c .owner; moment = moment; place = place; id = r .fields .id }
 
 abbrev pub pacedRun : Run → Pace → Run
 pacedRun r p = record { fields = r .fields; count = r .count; pace = p }
 
-abbrev pub passedRun : Connector → ℕ → Run → Passed → ConnectorPassed
-passedRun c port r (passed.Running p) = record { connector = withSending c (c .owner) (Running (pacedRun r p)); done = Nothing }
-passedRun c port r (passed.Complete moment) = record { connector = stopped c; done = Complete (completionOf c port r moment) }
+abbrev pub passingRun : Connector → Place → Run → Passed → Passing
+passingRun c place r (passed.Running p) = Running (withSending c (c .owner) (sending.Running (pacedRun r p)))
+passingRun c place r (passed.Complete moment) = Complete (stopped c) (completionOf c place r moment)
 
-abbrev pub passedSending : Connector → ℕ → ℕ → Sending → ConnectorPassed
-passedSending c port n Idle = record { connector = c; done = Nothing }
-passedSending c port n (Running r) = passedRun c port r (pace.passed (r .pace) (r .fields .freq) n)
+abbrev pub passingSending : Connector → Place → ℕ → Sending → Passing
+passingSending c place n sending.Idle = Idle
+passingSending c place n (sending.Running r) = passingRun c place r (pace.passed (r .pace) (r .fields .freq) n)
 
--- a connector n microseconds later
-abbrev pub passedConnector : Connector → ℕ → ℕ → ConnectorPassed
-passedConnector c port n = passedSending c port n (c .sending)
+-- what n microseconds make of a connector
+abbrev pub passing : Connector → Place → ℕ → Passing
+passing c place n = passingSending c place n (c .sending)
+
+-- the connector afterwards, and its completion, if there is one
+abbrev pub after : Connector → Passing → Connector
+after c Idle = c
+after c (Running next) = next
+after c (Complete next completion) = next
+
+abbrev pub doneOf : Passing → List Completion
+doneOf Idle = []
+doneOf (Running next) = []
+doneOf (Complete next completion) = completion ∷ []

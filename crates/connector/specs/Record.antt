@@ -2,7 +2,7 @@
 use Prim.Native.Nat.{_≤_}
 use mathlib.Core.Path.{_≡_}
 use Rattle.pace.specs.Pace.{SoundPace}
-use Rattle.request.specs.declared.mode.Mode.the-variants.{Ir}
+use Rattle.request.specs.declared.mode.Mode.{Mode}
 use Rattle.connector.specs.declared.Owner.{Owner}
 use Rattle.connector.specs.declared.Owner.the-variants.{Nobody}
 use Rattle.connector.specs.declared.Contact.{Contact}
@@ -11,9 +11,12 @@ use Rattle.connector.specs.declared.Run.{Run}
 use Rattle.connector.specs.declared.Sending.{Sending}
 use Rattle.connector.specs.declared.Sending.the-variants.{Idle, Running}
 use Rattle.connector.specs.declared.Connector.{Connector}
+use Rattle.connector.specs.declared.Change.{Change}
+use Rattle.connector.specs.declared.Change.the-variants.{Nothing, Becomes}
 
-abbrev pub freshConnector : Connector
-freshConnector = record { owner = Nobody; mode = Ir; contact = Unread; sending = Idle }
+-- in the mode that it wakes in
+abbrev pub freshConnector : Mode → Connector
+freshConnector mode = record { owner = Nobody; mode = mode; contact = Unread; sending = Idle }
 
 -- ---- what every connector has that a fresh hub and the calls gave
 
@@ -37,3 +40,13 @@ SoundContact (Read value) = value ≤ 1
 pub record SoundConnector (c : Connector) : Type 0 where
   pub sends : SoundSending (c .sending) (c .owner)
   pub reads : SoundContact (c .contact)
+
+-- and what becomes of one is sound
+abbrev pub SoundChange : Change → Type 0
+SoundChange Nothing = Unit
+SoundChange (Becomes c) = SoundConnector c
+
+-- the connector after a change
+abbrev pub changed : Connector → Change → Connector
+changed c Nothing = c
+changed c (Becomes next) = next

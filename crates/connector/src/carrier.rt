@@ -2,14 +2,15 @@
 use crate::Connector;
 use crate::Sending;
 ghost use mathlib.Core.Path.{_≡_};
-ghost use Prim.Native.Nat.{_<_};
+ghost use lib.ListN.{length};
+ghost use Rattle.code.specs.Limits.{mostCounts};
 ghost use Rattle.connector.specs.Record.{SoundSending};
 ghost use Rattle.connector.specs.Carrier.{carrierOf};
 
-// Whether it is on now; the pairs of what is sent stand in a slot of the store.
-pub fn carrier_of(store: &[u16; 1560], slot: usize, c: Connector) -> bool
-    requires { ⌜ SoundSending (c .sending) (c .owner) × (slot < 3) ⌝ }
-    ensures { λ r. ⌜ r ≡ carrierOf (now (store .entry)) slot (c .sending) ⌝ }
+// Whether it is on now; `kept` is the connector's own array.
+pub fn carrier_of(c: Connector, kept: &[u16]) -> bool
+    requires { ⌜ SoundSending (c .sending) (c .owner) × (length (now kept) ≡ mostCounts) ⌝ }
+    ensures { λ r. ⌜ r ≡ carrierOf (now (kept .entry)) (c .sending) ⌝ }
 {
     let sending = c.sending;
     match sending {
@@ -17,7 +18,7 @@ pub fn carrier_of(store: &[u16; 1560], slot: usize, c: Connector) -> bool
         Sending::Running(run) => {
             let pace = run.pace;
             let place = pace.place();
-            store::carrier(store, slot, run.count, place.0)
+            store::carrier(kept, run.count, place.0)
         }
     }
 }

@@ -1,14 +1,26 @@
 // A connector once a connection is closed: its transmission runs on with no owner.
 use crate::Connector;
+use crate::Owner;
 ghost use mathlib.Core.Path.{_≡_};
-ghost use Rattle.connector.specs.Change.{disowned};
+ghost use Rattle.connector.specs.Change.{ownerLeft, disowned};
+
+// Who owns a transmission once a connection is closed: nobody, if that was the owner.
+fn owner_left(owner: Owner, connection: u64) -> Owner
+    ensures { λ r. ⌜ r ≡ ownerLeft owner connection ⌝ }
+{
+    if crate::records::owns(owner, connection) {
+        Owner::Nobody
+    } else {
+        owner
+    }
+}
 
 // One mark is changed, and nothing else.
 pub fn disown(c: &mut Connector, connection: u64)
     ensures { λ _. ⌜ now (c .exit) ≡ disowned (now (c .entry)) connection ⌝ }
 {
     let before = c.owner;
-    let owner = crate::change::told_of(before, connection);
+    let owner = owner_left(before, connection);
     c.owner = owner;
 }
 

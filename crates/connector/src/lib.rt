@@ -1,6 +1,8 @@
-// One connector: its record and what becomes of it. The pairs of what it sends stand in a lent array.
+// One connector: its record, what it answers, and what becomes of it. The counts of what it sends stand in a lent array of its own.
 use pace::Micros;
 use pace::Pace;
+use reply::Reply;
+use request::Place;
 use request::mode::Mode;
 use words::Fields;
 ghost use mathlib.Core.Path.{_≡_};
@@ -37,30 +39,52 @@ pub struct Connector {
     pub sending: Sending,
 }
 
-// A transmission that is complete: when, counted from the wait's start, on which connector, and for whom.
-pub struct Completion {
-    pub owner: Owner,
-    pub moment: Micros,
-    pub port: u64,
-    pub id: u64,
-}
-
 impl Connector {
-    pub fn fresh() -> Self
-        ensures { λ r. ⌜ r ≡ freshConnector ⌝ }
+    pub fn fresh(mode: Mode) -> Self
+        ensures { λ r. ⌜ r ≡ freshConnector mode ⌝ }
     {
         Connector {
             owner: Owner::Nobody,
-            mode: Mode::Ir,
+            mode,
             contact: Contact::Unread,
             sending: Sending::Idle,
         }
     }
 }
 
+// What a call is answered: it is refused with a number, taken with nothing to say, or answered with a reply for the asker and
+// perhaps for an owner too.
+pub enum Answer {
+    Refused(u64),
+    Taken,
+    Reply { reply: Reply, also: Owner },
+}
+
+// What becomes of a connector: it stays as it is, or it becomes another record.
+pub enum Change {
+    Nothing,
+    Becomes(Connector),
+}
+
+// What a request to a connector gives: the answer and the change.
+pub struct Stepped {
+    pub answer: Answer,
+    pub change: Change,
+}
+
+// A transmission that is complete: for whom, when, counted from the wait's start, on which connector, and its command's id.
+pub struct Completion {
+    pub owner: Owner,
+    pub moment: Micros,
+    pub place: Place,
+    pub id: u64,
+}
+
+mod answers;
 pub mod carrier;
-pub mod change;
 pub mod closing;
-pub mod completions;
-pub mod judge;
 pub mod pass;
+pub mod reading;
+mod records;
+mod send;
+pub mod step;

@@ -1,73 +1,54 @@
 // Time on a connector.
 use crate::Completion;
 use crate::Connector;
+use crate::Owner;
 use crate::Run;
 use crate::Sending;
 use pace::Micros;
 use pace::Passed;
+use request::Place;
 ghost use mathlib.Core.Path.{_≡_};
 ghost use Prim.Native.Nat.{_≤_};
 ghost use Rattle.connector.specs.Record.{SoundSending};
-ghost use Rattle.connector.specs.Pass.{passedConnector};
+ghost use Rattle.connector.specs.Pass.{passing};
 
-// What a wait makes of a connector, and its completion, if there is one.
-pub enum Done {
-    Nothing,
-    Complete(Completion),
+// What a wait makes of a connector: it stays idle, it transmits still, or its transmission is complete and it is idle then.
+pub enum Passing {
+    Idle,
+    Running(Connector),
+    Complete(Connector, Completion),
 }
 
-pub struct ConnectorPassed {
-    pub connector: Connector,
-    pub done: Done,
-}
-
-// A connector some microseconds later.
-pub fn pass(c: Connector, port: u64, wait: Micros) -> ConnectorPassed
+// The connector at a place some microseconds later.
+pub fn pass(c: Connector, place: Place, wait: Micros) -> Passing
     requires { ⌜ SoundSending (c .sending) (c .owner) × (wait .0 ≤ 1000000000) ⌝ }
-    ensures { λ r. ⌜ r ≡ passedConnector c port (wait .0) ⌝ }
+    ensures { λ r. ⌜ r ≡ passing c place (wait .0) ⌝ }
 {
     let sending = c.sending;
     match sending {
-        Sending::Idle => ConnectorPassed {
-            connector: c,
-            done: Done::Nothing,
-        },
+        Sending::Idle => Passing::Idle,
         Sending::Running(run) => {
             let fields = run.fields;
             let old = run.pace;
             let owner = c.owner;
             match old.passed(fields.freq, wait) {
                 Passed::Running(pace) => {
-                    let mode = c.mode;
-                    let contact = c.contact;
                     let next = Run {
                         fields,
                         count: run.count,
                         pace,
                     };
-                    let connector = Connector {
-                        owner,
-                        mode,
-                        contact,
-                        sending: Sending::Running(next),
-                    };
-                    ConnectorPassed {
-                        connector,
-                        done: Done::Nothing,
-                    }
+                    Passing::Running(crate::records::with_sending(c, owner, Sending::Running(next)))
                 }
                 Passed::Complete(moment) => {
                     let completion = Completion {
                         owner,
                         moment,
-                        port,
+                        place,
                         id: fields.id,
                     };
-                    let connector = crate::change::stopped(c);
-                    ConnectorPassed {
-                        connector,
-                        done: Done::Complete(completion),
-                    }
+                    let next = crate::records::with_sending(c, Owner::Nobody, Sending::Idle);
+                    Passing::Complete(next, completion)
                 }
             }
         }

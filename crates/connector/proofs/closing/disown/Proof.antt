@@ -1,4 +1,4 @@
--- A walk by hand: the borrow is opened, the owner is read, `told_of` is called and its answer written, and the borrow is closed at the
+-- A walk by hand: the borrow is opened, the owner is read, `owner_left` is called and its answer written, and the borrow is closed at the
 -- record with that owner and every other field as it was.
 use Prim.Native.Nat.{ℕ, _<_, _^_}
 use mathlib.Core.Path.{_≡_, refl, ap}
@@ -44,15 +44,15 @@ use denote.Triple.Walked.{says, Stays, stay-ref, stay-none, walkOf, AllGo, goes-
 use denote.Exit.{yes}
 use Rattle.connector.specs.declared.Connector.{Connector}
 use Rattle.connector.specs.declared.Owner.{Owner}
-use Rattle.connector.specs.Change.{withSending, toldOf}
+use Rattle.connector.specs.Change.{withSending, ownerLeft}
 use Rattle.connector.proofs.Connector as T
 use Rattle.connector.proofs.Connector.Laws as T′
 use Rattle.connector.proofs.Owner as O
 use Rattle.connector.proofs.Owner.Laws as O′
-use Rattle.connector.proofs.change.told_of as told-of
-use Rattle.connector.proofs.change.told_of.Symbol as told-of-def
-use Rattle.connector.proofs.change.told_of.Symbol.{name as #told-of}
-use Rattle.connector.proofs.change.told_of.Met as told-of-thm
+use Rattle.connector.proofs.closing.owner_left as owner-left
+use Rattle.connector.proofs.closing.owner_left.Symbol as owner-left-def
+use Rattle.connector.proofs.closing.owner_left.Symbol.{name as #owner-left}
+use Rattle.connector.proofs.closing.owner_left.Met as owner-left-thm
 use Rattle.connector.proofs.closing.disown.Key.{name as #disown}
 use Rattle.connector.proofs.closing.disown as f
 use Rattle.connector.proofs.closing.disown.Statement as stated
@@ -79,12 +79,12 @@ withOwner c owner = withSending c owner (c .sending)
 
 module _ {M : Type 1} (𝓤 : URA M) (H : Heap 𝓤) (A : Atoms 𝓤) (at-mem : Memory → SProp 𝓤) (run : Routine → Fun 𝓤) where
   -- the contract that the proof cites
-  abbrev ToldOf : Contract 𝓤
-  ToldOf = tripleOf 𝓤 H A told-of.signature (told-of.spec 𝓤 H A at-mem run)
+  abbrev OwnerLeft : Contract 𝓤
+  OwnerLeft = tripleOf 𝓤 H A owner-left.signature (owner-left.spec 𝓤 H A at-mem run)
 
   told : (k : Owner) (n : ℕ) (r : Owner)
-      → ent 𝓤 (ensured 𝓤 H A told-of.ended (told-of.clauses 𝓤 H A at-mem run) tt (k, (n, tt)) tt r) (fact 𝓤 (r ≡ toldOf k n))
-  told k n r = exE 𝓤 _ (λ ws. snd∗ 𝓤 (sem 𝓤 H A (lasts told-of.ended tt (k, (n, tt)) ws)) (fact 𝓤 (r ≡ toldOf k n)))
+      → ent 𝓤 (ensured 𝓤 H A owner-left.ended (owner-left.clauses 𝓤 H A at-mem run) tt (k, (n, tt)) tt r) (fact 𝓤 (r ≡ ownerLeft k n))
+  told k n r = exE 𝓤 _ (λ ws. snd∗ 𝓤 (sem 𝓤 H A (lasts owner-left.ended tt (k, (n, tt)) ws)) (fact 𝓤 (r ≡ ownerLeft k n)))
 
 module _ {M : Type 1} (𝓤 : URA M) (H : Heap 𝓤) (A : Atoms 𝓤) (W : Given 𝓤 H A) (at-mem : Memory → SProp 𝓤) (run : Routine → Fun 𝓤)
     (κ : Lft) (q : Share) (b o : ℕ) (γ : GName) (h : Connector) (n : ℕ) where
@@ -107,7 +107,7 @@ module _ {M : Type 1} (𝓤 : URA M) (H : Heap 𝓤) (A : Atoms 𝓤) (W : Given
   abbrev Post : Val → SProp 𝓤
   Post = walkOf 𝓤 H A f.ended stayed (f.clauses 𝓤 H A at-mem run) .post (((κ, tt), (q, tt), tt, x, at), tt)
 
-  exits : n < 2 ^ 64 → (r : Owner) → r ≡ toldOf (h .owner) n
+  exits : n < 2 ^ 64 → (r : Owner) → r ≡ ownerLeft (h .owner) n
       → ent 𝓤 (sep 𝓤 (A .obs γ (T.the-row .coded .code (withOwner h r))) (sep 𝓤 (A .bor κ (Body (mem T.the-row) b o γ)) (A .lft κ q)))
       (Post vunit)
   exits fits r e =
@@ -120,16 +120,16 @@ module _ {M : Type 1} (𝓤 : URA M) (H : Heap 𝓤) (A : Atoms 𝓤) (W : Given
       nothing ! $ owned ! u64 (Is u64) (uint-makes 𝓤 H A W w64) n _ (refl, fits) $ fjoin ! $ move ! (1 ∷ 0 ∷ []) $ fjoin ! $
       feqI ! (List Val) (vunit ∷ []) (vunit ∷ []) refl $ move ! (1 ∷ 0 ∷ []) $ done !
 
-  abbrev to-told : ToldOf 𝓤 H A at-mem run .Ghost
-  to-told = ((tt, tt, tt, (h .owner, (n, tt)), (oval (h .owner) ∷ [], (vint w64 n ∷ [], tt))), tt)
+  abbrev to-owner-left : OwnerLeft 𝓤 H A at-mem run .Ghost
+  to-owner-left = ((tt, tt, tt, (h .owner, (n, tt)), (oval (h .owner) ∷ [], (vint w64 n ∷ [], tt))), tt)
 
-  goes-told : n < 2 ^ 64 → ent 𝓤 (sem 𝓤 H A (O.the-row .own (h .owner) (oval (h .owner) ∷ []))) (ToldOf 𝓤 H A at-mem run .pre to-told)
-  goes-told fits =
+  goes-owner-left : n < 2 ^ 64 → ent 𝓤 (sem 𝓤 H A (O.the-row .own (h .owner) (oval (h .owner) ∷ []))) (OwnerLeft 𝓤 H A at-mem run .pre to-owner-left)
+  goes-owner-left fits =
       qed W (‵ (O.the-row .own (h .owner) (oval (h .owner) ∷ [])) ∷ []) ∵
       nothing ! $ owned ! u64 (Is u64) (uint-makes 𝓤 H A W w64) n _ (refl, fits) $ fjoin ! $ move ! (1 ∷ 0 ∷ []) $ fjoin ! $
       nothing ! $ join ! $ frame ! $ done !
 
-  module _ (C : Calls 𝓤 H) (Λ : Loops 𝓤 H) (fm : FmC 𝓤 H (W .laws) C) (known : Triple 𝓤 (C #told-of) (ToldOf 𝓤 H A at-mem run)) where
+  module _ (C : Calls 𝓤 H) (Λ : Loops 𝓤 H) (fm : FmC 𝓤 H (W .laws) C) (known : Triple 𝓤 (C #owner-left) (OwnerLeft 𝓤 H A at-mem run)) where
     walk : ent 𝓤 (onEntry 𝓤 H A f.signature (κ, tt) (q, tt) x at) (WpFn 𝓤 H C Λ code.function (vptr b o ∷ vint w64 n ∷ []) Post)
     walk =
         qed W ((‵ (flft κ q) ⊛ ‵ ftrue) ∷ ‵ (owns (MutRef (named 0) κ T.the-row ∷ u64 ∷ []) x at) ∷ []) ∵
@@ -147,15 +147,15 @@ module _ {M : Type 1} (𝓤 : URA M) (H : Heap 𝓤) (A : Atoms 𝓤) (W : Given
         assigns ! (of-opd ! (load ! (from ! (hop ! (look ! 11 refl) (fld ! refl (stop !)))) (look-in ! 0 (sub ! 0 refl (whole !)))))
         (from ! (stop !)) (init ! 7 refl (typed (h .owner) (owner-is was))) $
         owned ! O.the-row (Is O.the-row) (EL.makes O.the-type O′.the-plain 𝓤 H A) (h .owner) _ (owner-is was) $
-        use1 W (raw (ToldOf 𝓤 H A at-mem run .pre to-told)) (goes-told (gn .1)) $
-        calls-at ! fm (ToldOf 𝓤 H A at-mem run) known to-told
+        use1 W (raw (OwnerLeft 𝓤 H A at-mem run .pre to-owner-left)) (goes-owner-left (gn .1)) $
+        calls-at ! fm (OwnerLeft 𝓤 H A at-mem run) known to-owner-left
         (and-then ! (load ! (from ! (stop !)) (look ! 8 refl)) (and-then ! (load ! (from ! (stop !)) (look ! 10 refl)) (no-more !))) (λ v.
         use1 W
         (later (some (λ (r : Owner). (‵ ftrue ⊛ ‵ (O.the-row .own r (v ∷ [])))
-        ⊛ raw (ensured 𝓤 H A told-of.ended (told-of.clauses 𝓤 H A at-mem run) tt (h .owner, (n, tt)) tt r)))) (id⊢ 𝓤 _) $
+        ⊛ raw (ensured 𝓤 H A owner-left.ended (owner-left.clauses 𝓤 H A at-mem run) tt (h .owner, (n, tt)) tt r)))) (id⊢ 𝓤 _) $
         await ! tt $ pick ! (λ r. split ! $ move ! (1 ∷ []) $
-        use1 W (raw (fact 𝓤 (r ≡ toldOf (h .owner) n))) (told 𝓤 H A at-mem run (h .owner) n r) $
-        heard ! (r ≡ toldOf (h .owner) n) (λ e. split ! $ drop ! $
+        use1 W (raw (fact 𝓤 (r ≡ ownerLeft (h .owner) n))) (told 𝓤 H A at-mem run (h .owner) n r) $
+        heard ! (r ≡ ownerLeft (h .owner) n) (λ e. split ! $ drop ! $
         peeks ! O.the-row (Is O.the-row) (shows 𝓤 H A O.the-row) r (v ∷ []) (λ is₀.
         land ! (from ! (stop !)) (init ! 6 refl (typed r is₀)) $
         rewrite ! 6 (λ (u : Val). ‵ (fat fullShare O′.mir l₄ 0 u)) (ap only (EL.tells O.the-type O′.the-laws r (v ∷ []) is₀)) refl $
@@ -175,7 +175,7 @@ module _ {M : Type 1} (𝓤 : URA M) (H : Heap 𝓤) (A : Atoms 𝓤) (W : Given
         keep ! (0 ∷ 1 ∷ 2 ∷ []) $ by ! (exits (gn .1) r e))))))))))))))
 
 module _ {M : Type 1} (𝓤 : URA M) (H : Heap 𝓤) (A : Atoms 𝓤) (W : Given 𝓤 H A) (at-mem : Memory → SProp 𝓤) (run : Routine → Fun 𝓤) where
-  disown-walks : (C : Calls 𝓤 H) (Λ : Loops 𝓤 H) → FmC 𝓤 H (W .laws) C → Triple 𝓤 (C #told-of) (ToldOf 𝓤 H A at-mem run)
+  disown-walks : (C : Calls 𝓤 H) (Λ : Loops 𝓤 H) → FmC 𝓤 H (W .laws) C → Triple 𝓤 (C #owner-left) (OwnerLeft 𝓤 H A at-mem run)
       → Walks 𝓤 H A f.ended stayed (WpFn 𝓤 H C Λ code.function) (f.clauses 𝓤 H A at-mem run)
   disown-walks C Λ fm known =
       walked 𝓤 H A f.ended stayed (f.clauses 𝓤 H A at-mem run) (WpFn 𝓤 H C Λ code.function) (λ κs. (ptr-vals, (uint-vals w64, tt)))
@@ -188,7 +188,7 @@ module _ {M : Type 1} (𝓤 : URA M) (H : Heap 𝓤) (A : Atoms 𝓤) (W : Given
   goes = (goes-ref 𝓤 H A W 1 0 tt (plain (λ _. T.the-row)), (goes-none 𝓤 H A W 1 (λ _. u64) yes (λ κs x f. refl), tt))
 
 disown-meets : {M : Type 1} (𝓤 : URA M) (H : Heap 𝓤) (A : Atoms 𝓤) → Given 𝓤 H A → (at-mem : Memory → SProp 𝓤) (run : Routine → Fun 𝓤)
-    (𝓣 : Tables 𝓤 H) → Triple 𝓤 (𝓣 .C #told-of) (ToldOf 𝓤 H A at-mem run)
+    (𝓣 : Tables 𝓤 H) → Triple 𝓤 (𝓣 .C #owner-left) (OwnerLeft 𝓤 H A at-mem run)
     → Meets 𝓤 H A f.signature (WpFn 𝓤 H (𝓣 .C) (𝓣 .Λ) code.function) (f.spec 𝓤 H A at-mem run)
 disown-meets 𝓤 H A W at-mem run 𝓣 known =
     walk-meets 𝓤 H A f.ended stayed W (goes 𝓤 H A W at-mem run) (f.clauses 𝓤 H A at-mem run) (WpFn 𝓤 H (𝓣 .C) (𝓣 .Λ) code.function)
@@ -201,5 +201,5 @@ disown-spec 𝓤 H 𝓜 𝓖 𝓡 =
     entered 𝓤 H (tripleOf 𝓤 H (𝓖 .A) f.signature (f.spec 𝓤 H (𝓖 .A) (𝓜 .mem) (𝓡 .run)))
     (tables 𝓤 H 𝓜 𝓡 code.env .C) (tables 𝓤 H 𝓜 𝓡 code.env .Λ) #disown code.function (code.unfolded 𝓤 H 𝓜 𝓡)
     (disown-meets 𝓤 H (𝓖 .A) (givenOf 𝓤 H 𝓜 𝓖) (𝓜 .mem) (𝓡 .run) (tablesOf 𝓤 H 𝓜 (tables 𝓤 H 𝓜 𝓡 code.env))
-    (cited 𝓤 H (ToldOf 𝓤 H (𝓖 .A) (𝓜 .mem) (𝓡 .run)) 𝓜 𝓡 code.env #told-of told-of-def.routine code.calls-connector·change·told-of
-    (told-of-thm.met 𝓤 H 𝓜 𝓖 𝓡)))
+    (cited 𝓤 H (OwnerLeft 𝓤 H (𝓖 .A) (𝓜 .mem) (𝓡 .run)) 𝓜 𝓡 code.env #owner-left owner-left-def.routine code.calls-connector·closing·owner-left
+    (owner-left-thm.met 𝓤 H 𝓜 𝓖 𝓡)))

@@ -1,3 +1,4 @@
+-- `connector::pass::pass` meets its contract.
 use native.Mathlib.Omega.{arith}
 use borrow.Author.Needs.{needs}
 use Rattle.connector.proofs.pass.pass.Statement.{statement}
@@ -17,20 +18,27 @@ passed-requires c κs =
 enum-known-pace : tie.Need-enum-known-pace
 enum-known-pace c = search needs
 
+with-sending-requires : tie.Need-with-sending-requires
+with-sending-requires c κs = search needs
+
 enum-known-moment : tie.Need-enum-known-moment
 enum-known-moment c = search needs
 
-stopped-requires : tie.Need-stopped-requires
-stopped-requires c κs = search needs
+with-sending-requires-2 : tie.Need-with-sending-requires-2
+with-sending-requires-2 c κs = search needs
 
 returns : tie.Need-returns
-returns c = rw (c .enum-told .given .1)
+returns c = search needs
 
 returns-2 : tie.Need-returns-2
-returns-2 c = rw (c .before .before .before .before .before .before .before .sending .given .1, ← c .before .before .before .passed .ensures, c .before .pace .given .1)
+returns-2 c =
+    let was = c .before .before .before .before in
+    rw (was .before .before .before .before .sending .given .1, ← was .passed .ensures, c .before .before .pace .given .1, c .with-sending .ensures)
 
 returns-3 : tie.Need-returns-3
-returns-3 c = rw (c .before .before .before .before .before .before .before .before .sending .given .1, ← c .before .before .before .before .passed .ensures, c .before .before .moment .given .1, c .stopped .ensures)
+returns-3 c =
+    let was = c .before .before .before .before in
+    rw (was .before .before .before .before .sending .given .1, ← was .passed .ensures, c .before .before .moment .given .1, c .with-sending2 .ensures)
 
 pub pass-spec : {M : Type 1} → statement M
 pass-spec =
@@ -40,8 +48,9 @@ pass-spec =
     enum-known-sending
     passed-requires
     enum-known-pace
+    with-sending-requires
     enum-known-moment
-    stopped-requires
+    with-sending-requires-2
     returns
     returns-2
     returns-3)

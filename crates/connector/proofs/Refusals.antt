@@ -1,0 +1,81 @@
+-- A connector that refuses, by a number, an error line or busyIR, stays as it was, with its counts.
+use Prim.Native.Nat.{ℕ}
+use mathlib.Core.Path.{refl}
+use mathlib.Core.Bool.{not}
+use mathlib.Core.List.{List}
+use lib.Dec.{ltb}
+use Rattle.laws.proofs.Choice.{cond-case}
+use Rattle.words.specs.declared.Pair.{Pair}
+use Rattle.words.specs.declared.Fields.{Fields}
+use Rattle.request.specs.declared.mode.Mode.{Mode}
+use Rattle.request.specs.declared.Place.{Place}
+use Rattle.request.specs.declared.Ask.{Ask}
+use Rattle.request.specs.declared.Ask.the-variants as ask
+use Rattle.request.specs.Mode.{isSensor}
+use Rattle.command.specs.Read.{CommandReading, sent, faulty, commandAt}
+use Rattle.connector.specs.declared.Contact.{Contact}
+use Rattle.connector.specs.declared.Contact.the-variants.{Unread, Read}
+use Rattle.connector.specs.declared.Connector.{Connector}
+use Rattle.connector.specs.declared.send.Verdict.{Verdict}
+use Rattle.connector.specs.declared.send.Verdict.the-variants as verdict
+use Rattle.connector.specs.Change.{isRunning}
+use Rattle.connector.specs.Send.{verdictOf}
+use Rattle.connector.specs.Step.{setMode, contactSays, getContact, stops, byVerdict, commandStep, commandRead, sendStep, stepOf}
+use Rattle.connector.specs.Reading.{readingStep}
+use Rattle.connector.specs.Refusals.{KeepsConnector, KeepsBoth}
+
+-- a contact reading
+pub reading-refused : (c : Connector) (value : ℕ) → KeepsConnector (readingStep c value)
+unfolding readingStep
+reading-refused c value =
+    cond-case KeepsConnector (not (isSensor (c .mode))) _ _ (λ _ _. refl) λ _.
+    cond-case KeepsConnector (ltb 1 value) _ _ (λ _ _. refl) (λ _ r. absurd r)
+
+module _ (c : Connector) (kept : List ℕ) (connection : ℕ) (text : List ℕ) (place : Place) where
+  -- 029
+  mode-refused : (mode : Mode) → KeepsConnector (setMode c place mode)
+  unfolding setMode
+  mode-refused mode = cond-case KeepsConnector (isRunning (c .sending)) _ _ (λ _ _. refl) (λ _ r. absurd r)
+
+  -- 018 and 028
+  contact-refused : KeepsConnector (getContact c place)
+  unfolding getContact
+  contact-refused = cond-case KeepsConnector (not (isSensor (c .mode))) _ _ (λ _ _. refl) (λ _. go (c .contact))
+    where
+      go : (contact : Contact) → KeepsConnector (contactSays place contact)
+      go Unread r = refl
+      go (Read value) r = absurd r
+
+  -- 013 of a stopir
+  stop-refused : KeepsConnector (stops c connection place)
+  unfolding stops
+  stop-refused = cond-case KeepsConnector (isSensor (c .mode)) _ _ (λ _ _. refl) (λ _ r. absurd r)
+
+  -- busyIR
+  command-refused : (f : Fields) (ps : List Pair) → KeepsBoth kept (commandStep c kept connection place f ps)
+  unfolding commandStep
+  command-refused f ps = go (verdictOf c kept connection f ps)
+    where
+      go : (v : Verdict) → KeepsBoth kept (byVerdict c kept connection place f ps v)
+      go verdict.Start r = absurd r
+      go verdict.Renew r = absurd r
+      go verdict.Busy r = (refl, refl)
+
+  -- the faults of a command
+  read-refused : (r : CommandReading) → KeepsBoth kept (commandRead c kept connection place r)
+  read-refused (faulty number found) r = (refl, refl)
+  read-refused (sent f ps) r = command-refused f ps r
+
+  -- 013 of a sendir
+  send-refused : (at : ℕ) → KeepsBoth kept (sendStep c kept connection text place at)
+  unfolding sendStep
+  send-refused at =
+      cond-case (KeepsBoth kept) (isSensor (c .mode)) _ _ (λ _ _. (refl, refl)) (λ _. read-refused (commandAt text at))
+
+  -- whatever is asked
+  pub step-refused : (asked : Ask) → KeepsBoth kept (stepOf c kept connection text place asked)
+  step-refused (ask.SetMode mode) r = (mode-refused mode r, refl)
+  step-refused ask.GetMode r = absurd r
+  step-refused ask.GetContact r = (contact-refused r, refl)
+  step-refused (ask.Send at) r = send-refused at r
+  step-refused ask.Stop r = (stop-refused r, refl)

@@ -1,5 +1,8 @@
+pub mod Inserting
+pub mod Waiting
+pub mod Parts
 pub mod Answering
 pub mod Keeps
-pub mod Contacts
 pub mod Refusals
-pub mod Closing
+pub mod Marks
+pub mod Contacts

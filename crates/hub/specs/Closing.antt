@@ -1,8 +1,9 @@
 -- What a closing may change. Document 01: "Closing a connection changes one mark in each connector's record: its transmissions run on with
--- no owner". That nothing else changes is proved in proofs/Closing.antt.
+-- no owner". That nothing else changes is proved in proofs/Marks.antt.
 use Prim.Native.Nat.{ℕ, _<_}
 use mathlib.Core.Path.{_≡_}
 use lib.ListN.{length}
+use Rattle.words.specs.Places.{connectors}
 use Rattle.connector.specs.declared.Owner.the-variants.{Nobody, Connection}
 use Rattle.connector.specs.declared.Connector.{Connector}
 use Rattle.hub.specs.declared.Hub.{Hub}
@@ -17,6 +18,6 @@ pub record OneMark (connection : ℕ) (before after : Connector) : Type 0 where
   pub sending : after .sending ≡ before .sending
 
 pub record MarksOnly (connection : ℕ) (before after : Hub) : Type 0 where
-  pub three : length (after .connectors) ≡ 3
-  pub each : (slot : ℕ) → slot < 3 → OneMark connection (connectorAt before slot) (connectorAt after slot)
+  pub as-many : length (after .connectors) ≡ connectors
+  pub each : (slot : ℕ) → slot < connectors → OneMark connection (connectorAt before slot) (connectorAt after slot)
   pub relays : after .relays ≡ before .relays

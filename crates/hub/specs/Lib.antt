@@ -1,7 +1,7 @@
 pub mod Record
-pub mod Send
 pub mod Line
 pub mod Calls
+pub mod Completions
 pub mod Wait
 pub mod Refusals
 pub mod Closing

@@ -1,34 +1,40 @@
 -- A wait.
-use Prim.Native.Nat.{ℕ, suc}
+use Prim.Native.Nat.{ℕ}
 use mathlib.Core.Bool.{cond}
-use mathlib.Core.List.{List, [], _∷_}
+use mathlib.Core.List.{List, [], map}
 use lib.Dec.{ltb}
+use Rattle.laws.specs.Lists.{gathered}
+use Rattle.request.specs.Place.{connectorIn}
+use Rattle.connector.specs.declared.Answer.the-variants as answer
 use Rattle.connector.specs.declared.Completion.{Completion}
-use Rattle.connector.specs.declared.pass.ConnectorPassed.{ConnectorPassed}
-use Rattle.connector.specs.Pass.{passedConnector}
-use Rattle.connector.specs.Completions.{joined, completionsOf}
-use Rattle.hub.specs.declared.Answer.the-variants as answer
+use Rattle.connector.specs.declared.Connector.{Connector}
+use Rattle.connector.specs.declared.pass.Passing.{Passing}
+use Rattle.connector.specs.Pass.{passing, after, doneOf}
 use Rattle.hub.specs.declared.Waited.{Waited}
+use Rattle.hub.specs.declared.wait.AllPassed.{AllPassed}
 use Rattle.hub.specs.declared.Hub.{Hub}
-use Rattle.hub.specs.Record.{connectorAt}
-use Rattle.hub.specs.Send.{decidedAs}
+use Rattle.hub.specs.Record.{slots, inSlot}
+use Rattle.hub.specs.Completions.{ordered, completionsOf}
 
-abbrev pub passedAt : Hub → ℕ → ℕ → ConnectorPassed
-passedAt h n slot = passedConnector (connectorAt h slot) (suc slot) n
+abbrev pub passingAt : List Connector → ℕ → ℕ → Passing
+passingAt all n slot = passing (inSlot all slot) (connectorIn slot) n
+
+-- the connectors n microseconds later, and their completions in order
+abbrev pub later : List Connector → ℕ → List Connector
+later all n = map (λ slot. after (inSlot all slot) (passingAt all n slot)) slots
+
+abbrev pub completed : List Connector → ℕ → List Completion
+completed all n = ordered [] (gathered (λ slot. doneOf (passingAt all n slot)) slots)
+
+abbrev pub allPassed : List Connector → ℕ → AllPassed
+allPassed all n = record { connectors = later all n; completions = completionsOf (completed all n) }
 
 abbrev pub waitedHub : Hub → ℕ → Hub
-waitedHub h n =
-    record {
-      connectors = passedAt h n 0 .connector ∷ passedAt h n 1 .connector ∷ passedAt h n 2 .connector ∷ [];
-      relays = h .relays;
-    }
-
-abbrev pub completed : Hub → ℕ → List Completion
-completed h n = joined (passedAt h n 2 .done) (joined (passedAt h n 1 .done) (joined (passedAt h n 0 .done) []))
+waitedHub h n = record { connectors = later (h .connectors) n; relays = h .relays }
 
 -- 103 "wait above 1,000,000,000 µs"
-unfoldable pub waitedStep : Hub → ℕ → Waited
-waitedStep h n =
+unfoldable pub waitCall : Hub → ℕ → Waited
+waitCall h n =
     cond (ltb 1000000000 n)
-    (record { decided = decidedAs (answer.Refused 103) h; completions = completionsOf [] })
-    (record { decided = decidedAs answer.Taken (waitedHub h n); completions = completionsOf (completed h n) })
+    (record { answer = answer.Refused 103; hub = h; completions = completionsOf [] })
+    (record { answer = answer.Taken; hub = waitedHub h n; completions = completionsOf (completed (h .connectors) n) })

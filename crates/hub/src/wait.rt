@@ -1,46 +1,45 @@
-// A wait.
-use crate::Answer;
-use crate::Decided;
+// The connectors some microseconds later, and their completions.
 use crate::Hub;
-use crate::Waited;
-use connector::completions::Completions;
+use crate::completions::Completions;
+use connector::Connector;
+use connector::pass::Passing;
 use pace::Micros;
+use request::Place;
 ghost use mathlib.Core.Path.{_≡_};
-ghost use Rattle.hub.specs.Record.{SoundHub};
-ghost use Rattle.hub.specs.Wait.{waitedStep};
+ghost use Prim.Native.Nat.{_≤_};
+ghost use Rattle.hub.specs.Record.{SoundAll};
+ghost use Rattle.hub.specs.Wait.{allPassed};
 
-// A wait of some microseconds.
-pub fn wait(hub: Hub, n: Micros) -> Waited
-    requires { ⌜ SoundHub hub ⌝ }
-    ensures { λ r. ⌜ r ≡ waitedStep hub (n .0) ⌝ }
+pub struct AllPassed {
+    pub connectors: [Connector; Hub::CONNECTORS],
+    pub completions: Completions,
+}
+
+pub fn passed(connectors: [Connector; Hub::CONNECTORS], n: Micros) -> AllPassed
+    requires { ⌜ SoundAll connectors × (n .0 ≤ 1000000000) ⌝ }
+    ensures { λ r. ⌜ r ≡ allPassed connectors (n .0) ⌝ }
 {
-    if Hub::MOST_WAIT < n.0 {
-        let decided = crate::unchanged::refused(hub, 103);
-        return Waited {
-            decided,
-            completions: Completions::none(),
-        };
+    let mut all = connectors;
+    let mut completions = Completions::none();
+    let mut slot: usize = 0;
+    while slot < Hub::CONNECTORS {
+        match connector::pass::pass(all[slot], Place::connector(slot), n) {
+            Passing::Idle => {
+                slot += 1;
+            }
+            Passing::Running(next) => {
+                all[slot] = next;
+                slot += 1;
+            }
+            Passing::Complete(next, completion) => {
+                all[slot] = next;
+                completions = completions.with(completion);
+                slot += 1;
+            }
+        }
     }
-    let a = connector::pass::pass(hub.connectors[0], 1, n);
-    let b = connector::pass::pass(hub.connectors[1], 2, n);
-    let c = connector::pass::pass(hub.connectors[2], 3, n);
-    let first = a.done;
-    let second = b.done;
-    let third = c.done;
-    let one = Completions::none().joined(first);
-    let two = one.joined(second);
-    let completions = two.joined(third);
-    let x = a.connector;
-    let y = b.connector;
-    let z = c.connector;
-    let connectors = [x, y, z];
-    let relays = hub.relays;
-    let decided = Decided {
-        answer: Answer::Taken,
-        hub: Hub { connectors, relays },
-    };
-    Waited {
-        decided,
+    AllPassed {
+        connectors: all,
         completions,
     }
 }

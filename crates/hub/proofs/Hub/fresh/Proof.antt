@@ -1,12 +1,13 @@
+-- `hub::Hub::fresh` meets its contract.
 use borrow.Author.Needs.{needs}
 use Rattle.hub.proofs.Hub.fresh.Statement.{statement}
 use Rattle.hub.proofs.Hub.fresh.Tie as tie
 
-fresh-requires : tie.Need-fresh-requires
-fresh-requires c κs = search needs
+connectors-requires : tie.Need-connectors-requires
+connectors-requires c κs = search needs
 
 returns : tie.Need-returns
-returns c = cc
+returns c = rw (c .connectors .ensures)
 
 pub fresh-spec : {M : Type 1} → statement M
-fresh-spec = tie.close (tie.spec fresh-requires returns)
+fresh-spec = tie.close (tie.spec connectors-requires returns)

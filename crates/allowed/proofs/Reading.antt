@@ -1,11 +1,12 @@
--- text, code and request: what is read.
+-- text, code, request and command: what is read. An outcome of a code or a command is what it is read as, and the lent counts.
 use mathlib.Core.Path.{refl, sym, _∙_}
 use Rattle.text.proofs as text
 use Rattle.code.proofs as code
 use Rattle.request.proofs as request
+use Rattle.command.proofs as command
 use Rattle.code.proofs.Smallest.{one-smallest}
 use Rattle.allowed.specs.Allowed.{One}
-use Rattle.allowed.proofs.Law.{promised, told}
+use Rattle.allowed.proofs.Law.{promised, told, both}
 
 -- text::number::is_digit
 pub text-is-digit : One text.number.is_digit.ended (λ _. text.number.is_digit.spec)
@@ -63,21 +64,25 @@ code-smallest-count = promised _ refl (λ _ given r r′ _ _ p q. (one-smallest 
 pub code-is-letter : One code.next.is_letter.ended (λ _. code.next.is_letter.spec)
 code-is-letter = told _ refl (λ _ _ _ _. refl)
 
+-- code::next::letter_at
+pub code-letter-at : One code.next.letter_at.ended (λ _. code.next.letter_at.spec)
+code-letter-at = told _ refl (λ _ _ _ _. refl)
+
 -- code::next::next_pair
 pub code-next-pair : One code.next.next_pair.ended (λ _. code.next.next_pair.spec)
 code-next-pair = told _ refl (λ _ _ _ _. refl)
 
 -- code::read::read_code
 pub code-read-code : One code.read.read_code.ended (λ _. code.read.read_code.spec)
-code-read-code = told _ refl (λ _ _ _ _. refl)
+code-read-code = promised _ refl (λ _ _ _ _ _ _ p q. (p .result ∙ sym (q .result), both refl (both refl (both refl (both (p .kept ∙ sym (q .kept)) refl)))))
 
--- request::fields::capped
-pub request-capped : One request.fields.capped.ended (λ _. request.fields.capped.spec)
-request-capped = told _ refl (λ _ _ _ _. refl)
+-- request::Place::connector
+pub request-connector : One request.Place.connector.ended (λ _. request.Place.connector.spec)
+request-connector = told _ refl (λ _ _ _ _. refl)
 
--- request::fields::sent_at
-pub request-sent-at : One request.fields.sent_at.ended (λ _. request.fields.sent_at.spec)
-request-sent-at = told _ refl (λ _ _ _ _. refl)
+-- request::Place::nowhere
+pub request-nowhere : One request.Place.nowhere.ended (λ _. request.Place.nowhere.spec)
+request-nowhere = told _ refl (λ _ _ _ _. refl)
 
 -- request::mode::mode_at
 pub request-mode-at : One request.mode.mode_at.ended (λ _. request.mode.mode_at.spec)
@@ -87,6 +92,30 @@ request-mode-at = told _ refl (λ _ _ _ _. refl)
 pub request-may-have : One request.mode.may_have.ended (λ _. request.mode.may_have.spec)
 request-may-have = told _ refl (λ _ _ _ _. refl)
 
+-- request::mode::is_sensor
+pub request-is-sensor : One request.mode.is_sensor.ended (λ _. request.mode.is_sensor.spec)
+request-is-sensor = told _ refl (λ _ _ _ _. refl)
+
+-- request::mode::fresh_mode
+pub request-fresh-mode : One request.mode.fresh_mode.ended (λ _. request.mode.fresh_mode.spec)
+request-fresh-mode = told _ refl (λ _ _ _ _. refl)
+
 -- request::read::read_request
 pub request-read-request : One request.read.read_request.ended (λ _. request.read.read_request.spec)
 request-read-request = told _ refl (λ _ _ _ _. refl)
+
+-- command::fields::capped
+pub command-capped : One command.fields.capped.ended (λ _. command.fields.capped.spec)
+command-capped = told _ refl (λ _ _ _ _. refl)
+
+-- command::fields::fields_at
+pub command-fields-at : One command.fields.fields_at.ended (λ _. command.fields.fields_at.spec)
+command-fields-at = told _ refl (λ _ _ _ _. refl)
+
+-- command::read::command_at
+pub command-command-at : One command.read.command_at.ended (λ _. command.read.command_at.spec)
+command-command-at = promised _ refl (λ _ _ _ _ _ _ p q. (p .result ∙ sym (q .result), both refl (both refl (both (p .kept ∙ sym (q .kept)) refl))))
+
+-- command::given::command_given
+pub command-command-given : One command.given.command_given.ended (λ _. command.given.command_given.spec)
+command-command-given = promised _ refl (λ _ _ _ _ _ _ p q. (p .result ∙ sym (q .result), both refl (both refl (both (p .kept ∙ sym (q .kept)) refl))))

@@ -50,53 +50,13 @@ store-carrier = told _ refl (λ _ _ _ _. refl)
 pub connector-fresh : One connector.Connector.fresh.ended (λ _. connector.Connector.fresh.spec)
 connector-fresh = told _ refl (λ _ _ _ _. refl)
 
--- connector::change::transmits_not
-pub connector-transmits-not : One connector.change.transmits_not.ended (λ _. connector.change.transmits_not.spec)
-connector-transmits-not = told _ refl (λ _ _ _ _. refl)
+-- connector::step::step: the answer with the change, and the counts kept
+pub connector-step : One connector.step.step.ended (λ _. connector.step.step.spec)
+connector-step = promised _ refl (λ _ _ _ _ _ _ p q. (p .result ∙ sym (q .result), both refl (both (p .counts ∙ sym (q .counts)) refl)))
 
--- connector::change::is_running
-pub connector-is-running : One connector.change.is_running.ended (λ _. connector.change.is_running.spec)
-connector-is-running = told _ refl (λ _ _ _ _. refl)
-
--- connector::change::with_mode
-pub connector-with-mode : One connector.change.with_mode.ended (λ _. connector.change.with_mode.spec)
-connector-with-mode = told _ refl (λ _ _ _ _. refl)
-
--- connector::change::with_reading
-pub connector-with-reading : One connector.change.with_reading.ended (λ _. connector.change.with_reading.spec)
-connector-with-reading = told _ refl (λ _ _ _ _. refl)
-
--- connector::change::started
-pub connector-started : One connector.change.started.ended (λ _. connector.change.started.spec)
-connector-started = told _ refl (λ _ _ _ _. refl)
-
--- connector::change::renewed
-pub connector-renewed : One connector.change.renewed.ended (λ _. connector.change.renewed.spec)
-connector-renewed = told _ refl (λ _ _ _ _. refl)
-
--- connector::change::stopped
-pub connector-stopped : One connector.change.stopped.ended (λ _. connector.change.stopped.spec)
-connector-stopped = told _ refl (λ _ _ _ _. refl)
-
--- connector::change::owns
-pub connector-owns : One connector.change.owns.ended (λ _. connector.change.owns.spec)
-connector-owns = told _ refl (λ _ _ _ _. refl)
-
--- connector::change::told_of
-pub connector-told-of : One connector.change.told_of.ended (λ _. connector.change.told_of.spec)
-connector-told-of = told _ refl (λ _ _ _ _. refl)
-
--- connector::change::same_fields
-pub connector-same-fields : One connector.change.same_fields.ended (λ _. connector.change.same_fields.spec)
-connector-same-fields = told _ refl (λ _ _ _ _. refl)
-
--- connector::judge::judge
-pub connector-judge : One connector.judge.judge.ended (λ _. connector.judge.judge.spec)
-connector-judge = told _ refl (λ _ _ _ _. refl)
-
--- connector::judge::run_of
-pub connector-run-of : One connector.judge.run_of.ended (λ _. connector.judge.run_of.spec)
-connector-run-of = told _ refl (λ _ _ _ _. refl)
+-- connector::reading::reading
+pub connector-reading : One connector.reading.reading.ended (λ _. connector.reading.reading.spec)
+connector-reading = told _ refl (λ _ _ _ _. refl)
 
 -- connector::pass::pass
 pub connector-pass : One connector.pass.pass.ended (λ _. connector.pass.pass.spec)
@@ -105,14 +65,6 @@ connector-pass = told _ refl (λ _ _ _ _. refl)
 -- connector::carrier::carrier_of
 pub connector-carrier-of : One connector.carrier.carrier_of.ended (λ _. connector.carrier.carrier_of.spec)
 connector-carrier-of = told _ refl (λ _ _ _ _. refl)
-
--- connector::completions::Completions::none
-pub connector-no-completions : One connector.completions.Completions.none.ended (λ _. connector.completions.Completions.none.spec)
-connector-no-completions = told _ refl (λ _ _ _ _. refl)
-
--- connector::completions::Completions::joined
-pub connector-joined : One connector.completions.Completions.joined.ended (λ _. connector.completions.Completions.joined.spec)
-connector-joined = told _ refl (λ _ _ _ _. refl)
 
 -- connector::closing::disown: the lent record
 pub connector-disown : One connector.closing.disown.ended (λ _. connector.closing.disown.spec)

@@ -1,168 +1,176 @@
 -- What the hub answers the calls beside lines, and what it becomes, is what they make of what is known; and its carriers.
-use Prim.Native.Nat.{ℕ, _+_, _-_}
-use mathlib.Core.Path.{_≡_, refl, sym, ap, _∙_}
+use Prim.Native.Nat.{ℕ, suc, _+_, _-_, _<_}
+use mathlib.Core.Path.{_≡_, refl, sym, ap, _∙_, subst}
 use mathlib.Core.Bool.{Bool, true, false, cond, not}
-use mathlib.Core.List.{List, [], _∷_, _++_}
+use mathlib.Core.List.{List, [], _∷_, map}
 use mathlib.Core.Option.{Option, none, some}
+use native.Mathlib.Numerals.{add-one}
 use native.Mathlib.Omega.{arith}
-use lib.Dec.{ltb, eqb}
-use lib.ListN.{length, take, replicate}
-use borrow.Author.Tests.{ltb-true, ltb-false, ne-eqb}
-use Rattle.laws.specs.Checks.{_⇒_, first}
-use Rattle.laws.proofs.Choice.{by-test, not-both}
-use Rattle.request.specs.Accepted.{PortWithin}
-use Rattle.meaning.specs.Time.{Transmission, complete}
+use lib.Dec.{ltb}
+use lib.ListN.{length, replicate}
+use lib.Seq.{take-append-seam}
+use borrow.Author.Tests.{ltb-true, ltb-false, lt-ltb, ne-eqb}
+use Rattle.laws.specs.Checks.{_⇒_, first, holds}
+use Rattle.laws.proofs.Choice.{by-test, not-both, cond-case}
+use Rattle.laws.proofs.Slots.{made-next}
+use Rattle.words.specs.Places.{connectors, ports}
+use Rattle.request.specs.declared.Place.{Place}
+use Rattle.request.specs.Mode.{isSensor}
+use Rattle.request.specs.Place.{placeOf, connectorIn}
+use Rattle.meaning.specs.Time.{Transmission, complete, carrier}
+use Rattle.meaning.specs.Log.{until}
 use Rattle.waveform.proofs.Paced.{complete-later}
+use Rattle.connector.specs.declared.Connector.{Connector}
 use Rattle.connector.specs.declared.Completion.{Completion}
-use Rattle.connector.specs.declared.pass.Done.{Done}
-use Rattle.connector.specs.declared.pass.Done.the-variants.{Nothing, Complete}
+use Rattle.connector.specs.declared.Answer.{Answer}
+use Rattle.connector.specs.declared.Answer.the-variants as answer
 use Rattle.connector.specs.Change as change
-use Rattle.connector.specs.Change.{toldOf}
-use Rattle.connector.specs.Send.{transmitsNot}
+use Rattle.connector.specs.Change.{ownerLeft}
 use Rattle.connector.specs.Carrier as carried
-use Rattle.connector.specs.Completions as completed
-use Rattle.connector.specs.Completions.{joined, doneOf, noCompletion}
-use Rattle.connector.specs.Pass.{passedConnector}
-use Rattle.hub.specs.declared.Answer.{Answer}
-use Rattle.hub.specs.declared.Answer.the-variants as answer
+use Rattle.connector.specs.Pass.{passing, after, doneOf}
+use Rattle.connector.specs.Reading.{readingStep}
 use Rattle.hub.specs.declared.Hub.{Hub}
-use Rattle.hub.specs.Record.{connectorAt, withConnector}
-use Rattle.hub.specs.Send.{decidedAs, unchanged}
-use Rattle.hub.specs.Calls.{decidedRefusal, readingStep, closedHub, carriersOf}
-use Rattle.hub.specs.Wait as waits
-use Rattle.hub.specs.Wait.{passedAt, waitedHub}
+use Rattle.hub.specs.Record.{connectorAt, keptAt}
+use Rattle.hub.specs.Line.{refusal, leaving, placed}
+use Rattle.hub.specs.Calls.{readingCall, closedHub, carriersOf}
+use Rattle.hub.specs.Completions.{ordered, noCompletion, completionsOf}
+use Rattle.hub.specs.Wait.{passingAt, completed, waitedHub}
 use Rattle.history.specs.Run.{listed}
-use Rattle.history.proofs.Known.{Known, onAir, withSending, readAs, carrierOf}
-use Rattle.history.proofs.Shown.{shown, FitFor, HeldIn, mode-shown, with-reading-shown, closed-shown, passed-shown, carrier-shown}
-use Rattle.history.proofs.Agrees.{three, hubOf, Stored, Means, unmoved, means-alike, connector-at, put-at, keep-at}
-use Rattle.history.proofs.Joining.{due, ordered, completions, ordered-append}
+use Rattle.history.proofs.Known.{Known, withSending, changedAt, readAs, readingSaid}
+use Rattle.history.proofs.Shown.{shown, FitFor, HeldIn, closed-shown, passed-shown, carrier-shown}
+use Rattle.history.proofs.Stepping.{reading-steps}
+use Rattle.history.proofs.Agrees.{each-slot, each-gathered, hubOf, Stored, Means, unmoved, means-alike, connector-at, keep-at}
+use Rattle.history.proofs.Joining.{due, completions}
 
 -- ---- what is said to them, and what they make of a connector
 
-abbrev pub readingSaid : (ℕ → Known) → ℕ → ℕ → Answer
-readingSaid K port value = first
+-- a reading is answered 104 for a port that is none
+abbrev pub readingCallSaid : (ℕ → Known) → ℕ → ℕ → Answer
+readingCallSaid K port value = first
     ((ltb port 1 ⇒ answer.Refused 104)
-    ∷ (ltb 3 port ⇒ answer.Refused 104)
-    ∷ (not (transmitsNot (K port .mode)) ⇒ answer.Refused 104)
-    ∷ (ltb 1 value ⇒ answer.Refused 104)
-    ∷ []) answer.Taken
+    ∷ (ltb connectors port ⇒ answer.Refused 104)
+    ∷ []) (readingSaid (K port) value)
 
-abbrev pub readAt : (ℕ → Known) → ℕ → ℕ → ℕ → Known
-readAt K port value p = cond (eqb port p) (readAs (K p) value) (K p)
-
+-- a connection closed owns nothing
 abbrev pub leftBy : (ℕ → Known) → ℕ → ℕ → Known
-leftBy K connection p = withSending (K p) (toldOf (K p .owner) connection) (K p .sending)
+leftBy K connection p = withSending (K p) (ownerLeft (K p .owner) connection) (K p .sending)
 
--- ---- the completions in their order
-joined-ordered : (d : Done) (l : List Completion) → joined d l ≡ ordered l (doneOf d)
-joined-ordered Nothing l = refl
-joined-ordered (Complete x) l = refl
+-- as many as the record counts are the list
+listed-of : (l : List Completion) → listed (completionsOf l) ≡ l
+listed-of l = take-append-seam l (replicate (connectors - length l) noCompletion)
 
-joined-three : (a b c : Done) → joined c (joined b (joined a [])) ≡ ordered [] (doneOf a ++ doneOf b ++ doneOf c)
-joined-three a b c =
-    joined-ordered c (joined b (joined a []))
-    ∙ ap (λ (l : List Completion). ordered l (doneOf c)) (joined-ordered b (joined a []) ∙ ap (λ (l : List Completion). ordered l (doneOf b)) (joined-ordered a []))
-    ∙ sym (ordered-append [] (doneOf a ++ doneOf b) (doneOf c)
-    ∙ ap (λ (l : List Completion). ordered l (doneOf c)) (ordered-append [] (doneOf a) (doneOf b)))
-
-listed-of : (l : List Completion) → listed (completed.completionsOf l) ≡ l
-listed-of l = take-front l (replicate (3 - length l) noCompletion)
-  where
-    take-front : (a b : List Completion) → take (length a) (a ++ b) ≡ a
-    take-front [] b = refl
-    take-front (x ∷ a) b = ap (λ (k : List Completion). x ∷ k) (take-front a b)
+-- the place of a slot's connector
+slot-place : (slot : ℕ) → slot < connectors → connectorIn slot ≡ placeOf 1 (suc slot)
+slot-place slot h =
+    let inside : ltb slot connectors ≡ true = lt-ltb slot connectors h in
+    rw (inside, add-one)
 
 module _ (t : ℕ) (K : ℕ → Known) (R : ℕ → ℕ) (fit : (p : ℕ) → FitFor t (K p .sending)) where
+  -- the hub that shows what is known
   abbrev hub : Hub
   hub = hubOf t K R
 
   -- ---- a wait
-  passes : (n port : ℕ)
-      → (passedConnector (shown t (K port)) port n .connector ≡ shown (t + n) (K port))
-      × (doneOf (passedConnector (shown t (K port)) port n .done) ≡ due t K n port)
-  passes n port = passed-shown t n port (K port) (fit port)
-
+  -- the hub after a wait shows the same later
   pub wait-passes : (n : ℕ) → waitedHub hub n ≡ hubOf (t + n) K R
   wait-passes n =
-      λ i. record { connectors = passes n 1 .0 i ∷ passes n 2 .0 i ∷ passes n 3 .0 i ∷ []; relays = three R }
+      ap (λ (l : List Connector). record { connectors = l; relays = hub .relays })
+      (each-slot (λ slot. after (connectorAt hub slot) (passingAt (hub .connectors) n slot)) (λ slot. shown (t + n) (K (suc slot)))
+      (λ slot h.
+      ap (λ (c : Connector). after c (passing c (connectorIn slot) n)) (connector-at t K R slot h)
+      ∙ passed-shown t n (connectorIn slot) (K (suc slot)) (fit (suc slot)) .0))
 
-  pub wait-completes : (n : ℕ) → listed (completed.completionsOf (waits.completed hub n)) ≡ completions t K n
+  -- what a slot completes is what its port is due
+  slot-due : (n slot : ℕ) → slot < connectors → doneOf (passingAt (hub .connectors) n slot) ≡ due t K n (suc slot)
+  slot-due n slot h =
+      ap (λ (c : Connector). doneOf (passing c (connectorIn slot) n)) (connector-at t K R slot h)
+      ∙ ap (λ (place : Place). doneOf (passing (shown t (K (suc slot))) place n)) (slot-place slot h)
+      ∙ passed-shown t n (placeOf 1 (suc slot)) (K (suc slot)) (fit (suc slot)) .1
+
+  -- the completions of a wait are those due
+  pub wait-completes : (n : ℕ) → listed (completionsOf (completed (hub .connectors) n)) ≡ completions t K n
   wait-completes n =
-      listed-of (waits.completed hub n)
-      ∙ joined-three (passedAt hub n 0 .done) (passedAt hub n 1 .done) (passedAt hub n 2 .done)
-      ∙ (λ i. ordered [] (passes n 1 .1 i ++ passes n 2 .1 i ++ passes n 3 .1 i))
+      listed-of (completed (hub .connectors) n)
+      ∙ ap (ordered [])
+      (each-gathered (λ slot. doneOf (passingAt (hub .connectors) n slot)) (due t K n) 0 connectors
+      (λ slot h. slot-due n slot (omega arith)))
 
   module _ (store : List ℕ) (st : Stored store t K) where
-    held-later : (slot n : ℕ) (o : Option Transmission) → FitFor t o → HeldIn store slot (onAir t o) → HeldIn store slot (onAir (t + n) o)
-    held-later slot n none g k = tt
-    held-later slot n (some s) g k = by (complete s t) refl (complete s (t + n)) refl k
+    -- what is kept stays kept while it is on air
+    held-later : (kept : List ℕ) (n : ℕ) (o : Option Transmission) → FitFor t o → HeldIn kept (until t o) → HeldIn kept (until (t + n) o)
+    held-later kept n none g k = tt
+    held-later kept n (some s) g k = by (complete s t) refl (complete s (t + n)) refl k
       where
         by : (u : Bool) → complete s t ≡ u → (v : Bool) → complete s (t + n) ≡ v
-            → HeldIn store slot (cond u none (some s)) → HeldIn store slot (cond v none (some s))
+            → HeldIn kept (cond u none (some s)) → HeldIn kept (cond v none (some s))
         by u d true e k = tt
         by true d false e k = not-both (complete-later g n d) e
         by false d false e k = k
 
+    -- so of the whole store
     pub stored-later : (n : ℕ) → Stored store (t + n) K
     stored-later n =
-        record { size = st .size; held = λ port w. held-later (port - 1) n (K port .sending) (fit port) (st .held port w) }
-
-    -- ---- a closing
-    pub closed-means : (connection : ℕ)
-        → Means t answer.Taken (leftBy K connection) R (unchanged (decidedAs answer.Taken (closedHub hub connection)) store)
-    closed-means connection =
         record {
-          said = refl;
-          hub = sym (λ i. record { connectors = three (λ p. closed-shown t connection (K p) i); relays = three R });
-          stored = record { size = st .size; held = st .held };
+          size = st .size;
+          held = λ slot h. held-later (keptAt store slot) n (K (suc slot) .sending) (fit (suc slot)) (st .held slot h);
         }
 
+    -- ---- a closing
+    -- the hub after a closing
+    pub closed-means : (connection : ℕ) → closedHub hub connection ≡ hubOf t (leftBy K connection) R
+    closed-means connection =
+        ap (λ (l : List Connector). record { connectors = l; relays = hub .relays })
+        (each-slot (λ slot. change.disowned (connectorAt hub slot) connection) (λ slot. shown t (leftBy K connection (suc slot)))
+        (λ slot h.
+        ap (λ (c : Connector). change.disowned c connection) (connector-at t K R slot h) ∙ sym (closed-shown t connection (K (suc slot)))))
+
+    -- a closing keeps the counts
+    pub closed-stored : (connection : ℕ) → Stored store t (leftBy K connection)
+    closed-stored connection = record { size = st .size; held = st .held }
+
     -- ---- a reading
+    -- a reading keeps the counts
+    reading-held : (value : ℕ) (kept : List ℕ) (x : Known) → HeldIn kept (until t (x .sending)) → HeldIn kept (until t (readAs x value .sending))
+    reading-held value kept x h =
+        cond-case (λ (y : Known). HeldIn kept (until t (y .sending))) (not (isSensor (x .mode))) _ _ (λ e. h)
+        (λ e. cond-case (λ (y : Known). HeldIn kept (until t (y .sending))) (ltb 1 value) _ _ (λ f. h) (λ f. h))
+
+    -- a reading of the connector in a slot
+    slot-reads : (value slot : ℕ) → slot < connectors
+        → Means t hub (readingSaid (K (suc slot)) value) (changedAt (suc slot) (λ x. readAs x value) K) R
+        (leaving (placed slot (readingStep (connectorAt hub slot) value)) store)
+    slot-reads value slot h =
+        rw (connector-at t K R slot h)
+        (keep-at t K R (λ x. readAs x value) slot h store st (reading-steps t (K (suc slot)) value)
+        (reading-held value (keptAt store slot) (K (suc slot)) (st .held slot h)))
+
+    -- a port that is none
+    no-port : (port value : ℕ) → ((slot : ℕ) → slot < connectors → port ≡ suc slot → ⊥)
+        → Means t hub (answer.Refused 104) (changedAt port (λ x. readAs x value) K) R (leaving (refusal 104) store)
+    no-port port value none-such =
+        means-alike (λ slot h. rw (ne-eqb port (suc slot) (none-such slot h))) (λ p. refl) (unmoved st (answer.Refused 104))
+
+    -- a reading of any port
     pub reading-means : (port value : ℕ)
-        → Means t (readingSaid K port value) (readAt K port value) R (unchanged (readingStep hub port value) store)
-    unfolding readingStep
+        → Means t hub (readingCallSaid K port value) (changedAt port (λ x. readAs x value) K) R (leaving (readingCall hub port value) store)
+    unfolding readingCall
     reading-means port value =
         by-test (ltb port 1)
-        (λ e. rw e
-        (means-alike (λ p w. rw (ne-eqb port p (λ same. omega (arith, ltb-true port 1 e, w .least)))) (λ p. refl)
-        (unmoved st (answer.Refused 104))))
-        (λ e. by-test (ltb 3 port)
+        (λ e. rw e (no-port port value (λ slot h same. omega (arith, ltb-true port 1 e))))
+        (λ e. by-test (ltb connectors port)
+        (λ f. rw (e, f) (no-port port value (λ slot h same. omega (arith, ltb-true connectors port f))))
         (λ f. rw (e, f)
-        (means-alike (λ p w. rw (ne-eqb port p (λ same. omega (arith, ltb-true 3 port f, w .most)))) (λ p. refl)
-        (unmoved st (answer.Refused 104))))
-        (λ f. rw (e, f) (taken (record { least = ltb-false port 1 e; most = ltb-false 3 port f }))))
-      where
-        taken : PortWithin port
-            → Means t
-            (cond (not (transmitsNot (K port .mode))) (answer.Refused 104) (cond (ltb 1 value) (answer.Refused 104) answer.Taken))
-            (readAt K port value) R
-            (unchanged
-            (cond (not (transmitsNot (connectorAt hub (port - 1) .mode))) (decidedRefusal hub 104)
-            (cond (ltb 1 value) (decidedRefusal hub 104)
-            (decidedAs answer.Taken (withConnector hub (port - 1) (change.withReading (connectorAt hub (port - 1)) value))))) store)
-        taken w =
-            rw (connector-at t K R port w)
-            (by-test (not (transmitsNot (K port .mode)))
-            (λ e. rw (mode-shown t (K port), e)
-            (keep-at t K R (λ y. readAs y value) store st port w (answer.Refused 104) (rw e)))
-            (λ e. by-test (ltb 1 value)
-            (λ f. rw (mode-shown t (K port), e, f)
-            (keep-at t K R (λ y. readAs y value) store st port w (answer.Refused 104) (rw (e, f))))
-            (λ f. rw (mode-of e, e, f)
-            (put-at t K R (λ y. readAs y value) store st port w answer.Taken
-            (change.withReading (shown t (K port)) value)
-            (rw (e, f) (sym (with-reading-shown t (K port) value)))
-            (rw (e, f) (st .held port w))))))
-          where
-            mode-of : not (transmitsNot (K port .mode)) ≡ false → not (transmitsNot (shown t (K port) .mode)) ≡ false
-            mode-of e = rw (mode-shown t (K port)) e
+        (let named : suc (port - 1) ≡ port = omega (arith, ltb-false port 1 e) in
+        subst (λ (p : ℕ). Means t hub (readingSaid (K p) value) (changedAt p (λ x. readAs x value) K) R
+        (leaving (placed (port - 1) (readingStep (connectorAt hub (port - 1)) value)) store)) named
+        (slot-reads value (port - 1) (omega (arith, ltb-false port 1 e, ltb-false connectors port f))))))
 
     -- ---- the carriers
-    pub carriers-shown : carriersOf hub store ≡ three (λ p. carrierOf t (onAir t (K p .sending)))
+    -- the hub's carriers are those of what is on air
+    pub carriers-shown : carriersOf hub store ≡ map (λ p. holds (λ s. carrier s t) (until t (K p .sending))) ports
     carriers-shown =
-        λ i. lit 1 (record { least = omega arith; most = omega arith }) i ∷ lit 2 (record { least = omega arith; most = omega arith }) i
-        ∷ lit 3 (record { least = omega arith; most = omega arith }) i ∷ []
-      where
-        lit : (port : ℕ) → PortWithin port
-            → carried.carrierOf store (port - 1) (shown t (K port) .sending) ≡ carrierOf t (onAir t (K port .sending))
-        lit port w = carrier-shown store (port - 1) t (K port) (fit port) (st .held port w)
+        each-slot (λ slot. carried.carrierOf (keptAt store slot) (connectorAt hub slot .sending)) (λ slot. holds (λ s. carrier s t) (until t (K (suc slot) .sending)))
+        (λ slot h.
+        ap (λ (c : Connector). carried.carrierOf (keptAt store slot) (c .sending)) (connector-at t K R slot h)
+        ∙ carrier-shown (keptAt store slot) t (K (suc slot)) (fit (suc slot)) (st .held slot h))
+        ∙ sym (made-next (λ p. holds (λ s. carrier s t) (until t (K p .sending))) 0 connectors)

@@ -10,21 +10,26 @@ use lib.Dec.{ltb}
 use lib.ListN.{length}
 use borrow.Author.Tests.{le-ltb}
 use Rattle.laws.proofs.Choice.{by-test}
+use Rattle.laws.specs.Lists.{gathered}
+use Rattle.words.specs.Places.{ports}
+use Rattle.request.specs.declared.Place.{Place}
+use Rattle.request.specs.Place.{placeOf}
 use Rattle.meaning.specs.Time.{Transmission, complete}
-use Rattle.meaning.specs.Log.{now, relayOf}
+use Rattle.meaning.specs.Log.{now, relayOf, until}
 use Rattle.meaning.specs.Table.{Call, waiting, logOf}
 use Rattle.connector.specs.declared.Completion.{Completion}
 use Rattle.hub.specs.declared.Hub.{Hub}
 use Rattle.hub.specs.Record.{freshHub}
-use Rattle.hub.specs.Wait.{waitedStep}
-use Rattle.history.specs.Run.{Outcome, called, run}
+use Rattle.hub.specs.Completions.{ordered}
+use Rattle.hub.specs.Wait.{waitCall}
+use Rattle.history.specs.Run.{Called, called, run}
 use Rattle.history.specs.Waiting.{movedBy, Reached, reached, at, afterwards, Composes, ChangesNothing}
 use Rattle.reads.proofs.Cursor.{modeIn}
-use Rattle.history.proofs.Known.{Known, onAir, dueOf}
+use Rattle.history.proofs.Known.{Known, dueOf}
 use Rattle.history.proofs.Shown.{FitFor}
 use Rattle.history.proofs.Fits.{fit-after}
 use Rattle.history.proofs.Agrees.{hubOf}
-use Rattle.history.proofs.Joining.{completions}
+use Rattle.history.proofs.Joining.{due, completions}
 use Rattle.history.proofs.Calling.{wait-passes, wait-completes}
 use Rattle.history.proofs.Waits.{completions-add}
 use Rattle.history.proofs.View.{view}
@@ -37,6 +42,7 @@ record Past (r : Reached) : Type 0 where
   hub : r .hub ≡ hubAt (logOf history)
   stored : Keeps (r .store) (logOf history)
 
+-- a call more
 past-call : (hub : Hub) (store : List ℕ) (call : Call) → Past (record { hub = hub; store = store })
     → Past (afterwards (called hub store call))
 past-call hub store call p =
@@ -44,45 +50,56 @@ past-call hub store call p =
     let same : called hub store call ≡ called (hubAt (logOf (p .history))) store call = ap (λ (x : Hub). called x store call) (p .hub) in
     record {
       history = call ∷ p .history;
-      hub = ap (λ (o : Outcome). o .step .decided .hub) same ∙ f .hub;
-      stored = subst (λ (o : Outcome). Keeps (o .step .store) (logOf (call ∷ p .history))) (sym same) (f .stored);
+      hub = ap (λ (c : Called). c .hub) same ∙ f .hub;
+      stored = subst (λ (c : Called). Keeps (c .store) (logOf (call ∷ p .history))) (sym same) (f .stored);
     }
 
+-- calls more
 past : (hub : Hub) (store : List ℕ) (l : List Call) → Past (record { hub = hub; store = store }) → Past (reached hub store l)
 past hub store [] p = p
 past hub store (call ∷ l) p =
-    past (called hub store call .step .decided .hub) (called hub store call .step .store) l (past-call hub store call p)
+    past (called hub store call .hub) (called hub store call .store) l (past-call hub store call p)
 
+-- every hub that calls reach from a fresh one is such a hub
 past-fresh : (store : List ℕ) → length store ≡ 1560 → (calls : List Call) → Past (reached freshHub store calls)
 unfolding modeIn
 past-fresh store size calls =
-    past freshHub store calls (record { history = []; hub = refl; stored = record { size = size; held = λ port w. tt } })
+    past freshHub store calls (record { history = []; hub = refl; stored = record { size = size; held = λ slot h. tt } })
 
 -- ---- waits of a hub that shows what is known at a moment
+-- the hub that shows what is known, with a store
 abbrev present : ℕ → (ℕ → Known) → (ℕ → ℕ) → List ℕ → Reached
 present t K R store = record { hub = hubOf t K R; store = store }
 
 module _ (t : ℕ) (K : ℕ → Known) (R : ℕ → ℕ) (fit : (p : ℕ) → FitFor t (K p .sending)) (store : List ℕ) where
+  -- what a wait leaves
   wait-leaves : (n : ℕ) → n ≤ 1000000000 → afterwards (at (present t K R store) (waiting n)) ≡ present (t + n) K R store
-  unfolding waitedStep
+  unfolding waitCall
   wait-leaves n low = rw (le-ltb 1000000000 n low) (ap (λ (x : Hub). record { hub = x; store = store }) (wait-passes t K R fit n))
 
+  -- what a wait completes
   wait-gives : (n : ℕ) → n ≤ 1000000000 → at (present t K R store) (waiting n) .completions ≡ completions t K n
-  unfolding waitedStep
+  unfolding waitCall
   wait-gives n low = rw (le-ltb 1000000000 n low) (wait-completes t K R fit n)
 
 -- a wait that is refused completes nothing
 pub refused-completes-nothing : (hub : Hub) (store : List ℕ) (n : ℕ) → ltb 1000000000 n ≡ true
     → called hub store (waiting n) .completions ≡ []
-unfolding waitedStep
+unfolding waitCall
 refused-completes-nothing hub store n e = rw e
 
 -- nothing is complete at once
-due-at-once : (t port : ℕ) (x : Known) (o : Option Transmission) → dueOf t 0 port x (onAir t o) ≡ []
-due-at-once t port x none = refl
-due-at-once t port x (some s) = by-test (complete s t) (λ e. rw e) (λ e. rw (e, add-zero t, e))
+due-at-once : (t : ℕ) (place : Place) (x : Known) (o : Option Transmission) → dueOf t 0 place x (until t o) ≡ []
+due-at-once t place x none = refl
+due-at-once t place x (some s) = by-test (complete s t) (λ e. rw e) (λ e. rw (e, add-zero t, e))
+
+-- nor of any port
+none-at-once : (t : ℕ) (K : ℕ → Known) (ps : List ℕ) → gathered (due t K 0) ps ≡ []
+none-at-once t K [] = refl
+none-at-once t K (p ∷ ps) = rw (due-at-once t (placeOf 1 p) (K p) (K p .sending)) (none-at-once t K ps)
 
 module _ (t : ℕ) (K : ℕ → Known) (R : ℕ → ℕ) (fit : (p : ℕ) → FitFor t (K p .sending)) (store : List ℕ) where
+  -- two waits and one of their sum
   two-waits : (a b : ℕ) → a + b ≤ 1000000000 → Composes (present t K R store) a b
   two-waits a b short =
       let first = wait-leaves t K R fit store a (omega arith) in
@@ -101,8 +118,9 @@ module _ (t : ℕ) (K : ℕ → Known) (R : ℕ → ℕ) (fit : (p : ℕ) → Fi
         later = λ l. ap (λ (r : Reached). run (r .hub) (r .store) l) hubs;
       }
 
+  -- a wait of 0
   no-wait : ChangesNothing (present t K R store) (waiting 0)
-  unfolding waitedStep
+  unfolding waitCall
   no-wait =
       let same : afterwards (at (present t K R store) (waiting 0)) ≡ present t K R store =
       wait-leaves t K R fit store 0 (omega arith) ∙ ap (λ (u : ℕ). present u K R store) (add-zero t) in
@@ -111,7 +129,7 @@ module _ (t : ℕ) (K : ℕ → Known) (R : ℕ → ℕ) (fit : (p : ℕ) → Fi
         hub = same;
         completions =
             wait-gives t K R fit store 0 (omega arith)
-            ∙ rw (due-at-once t 1 (K 1) (K 1 .sending), due-at-once t 2 (K 2) (K 2 .sending), due-at-once t 3 (K 3) (K 3 .sending));
+            ∙ ap (ordered []) (none-at-once t K ports);
         later = λ l. ap (λ (r : Reached). run (r .hub) (r .store) l) same;
       }
 

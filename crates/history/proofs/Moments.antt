@@ -13,6 +13,7 @@ use Rattle.history.proofs.Shown.{FitFor}
 use Rattle.history.proofs.Logged.{logged-fit}
 
 module _ (h : List Call) (port : ℕ) (s : Transmission) (e : lastOf port (logOf h) ≡ some s) where
+  -- it is one of an accepted command
   fit : Fit s (now (logOf h))
   fit = subst (FitFor (now (logOf h))) e (logged-fit h port)
 

@@ -20,6 +20,7 @@ use Rattle.history.proofs.Logged.{logged-fit}
 
 -- ---- its copies
 
+-- what a connector had last has so many copies
 abbrev Counted : List Deed → ℕ → Option Transmission → Type 0
 Counted log p none = Unit
 Counted log p (some s) = CopiesBy log p s
@@ -32,12 +33,14 @@ spared log p d e (some s) (at-start since earlier connection splits quiet n) =
 spared log p d e (some s) (at-renewal since earlier splits quiet n) =
     at-renewal (d ∷ since) earlier (ap (λ (l : List Deed). d ∷ l) splits) (and-true _ _ e quiet) n
 
+-- a renewal
 counted-renewed : (log : List Deed) (p q : ℕ) → q ≡ p → (o : Option Transmission)
     → Counted (event (renewed q) ∷ log) p (Option·map (λ s. time.renewed s (now log)) o)
 unfolding time.renewed begun done
 counted-renewed log p q e none = tt
 counted-renewed log p q e (some s) = at-renewal [] log (ap (λ (n : ℕ). event (renewed n) ∷ log) e) refl refl
 
+-- so by any log
 counted : (log : List Deed) (p : ℕ) → Counted log p (lastOf p log)
 unfolding time.started
 counted [] p = tt
@@ -63,10 +66,12 @@ renewed-often log p s e = subst (Counted log p) e (counted log p)
 
 -- ---- after a history, a transmission on air
 module _ (h : List Call) (p : ℕ) (s : Transmission) (air : onAir p (logOf h) ≡ some s) where
+  -- it was started last
   last : lastOf p (logOf h) ≡ some s
   unfolding onAir
   last = until-some (now (logOf h)) (lastOf p (logOf h)) air
 
+  -- it is one of an accepted command
   fit : Fit s (now (logOf h))
   fit = subst (FitFor (now (logOf h))) last (logged-fit h p)
 

@@ -8,18 +8,21 @@ use Rattle.hub.proofs.Keeps.{fresh-sound, line-sound, overlong-sound, reading-s
 use Rattle.history.specs.Run.{called}
 use Rattle.history.specs.Waiting.{reached}
 
-called-sound : (hub : Hub) (store : List ℕ) (call : Call) → SoundHub hub → SoundHub (called hub store call .step .decided .hub)
+-- each call keeps it
+called-sound : (hub : Hub) (store : List ℕ) (call : Call) → SoundHub hub → SoundHub (called hub store call .hub)
 called-sound hub store (line connection room text) s = line-sound hub store connection text room s
 called-sound hub store (overlong connection room) s = overlong-sound hub connection room s
 called-sound hub store (reading port value) s = reading-sound hub port value s
 called-sound hub store (closing connection) s = closed-sound hub connection s
 called-sound hub store (waiting n) s = wait-sound hub n s
 
+-- so do calls one after the other
 stays-sound : (hub : Hub) (store : List ℕ) (l : List Call) → SoundHub hub → SoundHub (reached hub store l .hub)
 stays-sound hub store [] s = s
 stays-sound hub store (call ∷ l) s =
-    let o = called hub store call .step in
-    stays-sound (o .decided .hub) (o .store) l (called-sound hub store call s)
+    let c = called hub store call in
+    stays-sound (c .hub) (c .store) l (called-sound hub store call s)
 
+-- after any calls from a fresh one
 pub reached-sound : (store : List ℕ) (calls : List Call) → SoundHub (reached freshHub store calls .hub)
 reached-sound store calls = stays-sound freshHub store calls fresh-sound

@@ -9,33 +9,42 @@ use native.Mathlib.Nat.{add-assoc}
 use lib.Dec.{ltb}
 use borrow.Author.Tests.{ltb-true, ltb-false, lt-ltb, le-ltb}
 use Rattle.laws.proofs.Choice.{by-test, not-both, cond-case}
+use Rattle.laws.specs.Lists.{gathered}
+use Rattle.words.specs.Places.{ports}
+use Rattle.request.specs.declared.Place.{Place}
+use Rattle.request.specs.Place.{placeOf}
 use Rattle.meaning.specs.Time.{Transmission, complete, finish}
+use Rattle.meaning.specs.Log.{until}
 use Rattle.waveform.proofs.Paced.{fit-later, complete-later}
 use Rattle.waveform.proofs.Meaning.{finish-tells, finish-first}
 use Rattle.connector.specs.declared.Completion.{Completion}
-use Rattle.connector.specs.Completions.{inserted}
+use Rattle.hub.specs.Completions.{inserted, ordered}
 use Rattle.pace.specs.Pace.{micros}
 use Rattle.history.specs.Waiting.{movedBy}
-use Rattle.history.proofs.Known.{Known, onAir, dueOf}
+use Rattle.history.proofs.Known.{Known, dueOf}
 use Rattle.history.proofs.Shown.{FitFor}
-use Rattle.history.proofs.Joining.{due, ordered, completions, ordered-append}
+use Rattle.history.proofs.Joining.{due, completions, ordered-append}
 
 -- ---- completions up to a moment, and behind it
+-- none is later than a
 abbrev Upto : ℕ → List Completion → Type 0
 Upto a [] = Unit
 Upto a (x ∷ l) = (x .moment .0 ≤ a) × Upto a l
 
+-- all are later than a
 abbrev Behind : ℕ → List Completion → Type 0
 Behind a [] = Unit
 Behind a (x ∷ l) = (a < x .moment .0) × Behind a l
 
 module _ (a : ℕ) where
+  -- one more that is not later
   upto-inserted : (x : Completion) (l : List Completion) → x .moment .0 ≤ a → Upto a l → Upto a (inserted x l)
   upto-inserted x [] h u = (h, tt)
   upto-inserted x (y ∷ l) h u =
       cond-case (Upto a) (ltb (x .moment .0) (y .moment .0)) (x ∷ y ∷ l) (y ∷ inserted x l)
       (λ e. (h, u)) (λ e. (u .0, upto-inserted x l h (u .1)))
 
+  -- one more that is later
   behind-inserted : (x : Completion) (l : List Completion) → a < x .moment .0 → Behind a l → Behind a (inserted x l)
   behind-inserted x [] h u = (h, tt)
   behind-inserted x (y ∷ l) h u =
@@ -53,25 +62,30 @@ module _ (a : ℕ) where
       by true e = refl
       by false e = ap (λ (k : List Completion). y ∷ k) e
 
+  -- a late one goes among the late ones
   insert-late : (x : Completion) (l m : List Completion) → a < x .moment .0 → Upto a l → inserted x (l ++ m) ≡ l ++ inserted x m
   insert-late x [] m h u = refl
   insert-late x (y ∷ l) m h u =
       rw (le-ltb (x .moment .0) (y .moment .0) (omega (arith, u .0)))
       (ap (λ (k : List Completion). y ∷ k) (insert-late x l m h (u .1)))
 
+  -- none of two lists in order is later
   upto-ordered : (l e : List Completion) → Upto a l → Upto a e → Upto a (ordered l e)
   upto-ordered l [] u v = u
   upto-ordered l (x ∷ e) u v = upto-ordered (inserted x l) e (upto-inserted x l (v .0) u) (v .1)
 
+  -- all of two lists in order are later
   behind-ordered : (l e : List Completion) → Behind a l → Behind a e → Behind a (ordered l e)
   behind-ordered l [] u v = u
   behind-ordered l (x ∷ e) u v = behind-ordered (inserted x l) e (behind-inserted x l (v .0) u) (v .1)
 
+  -- early ones go among the early ones
   ordered-early : (l m e : List Completion) → Upto a e → Behind a m → ordered (l ++ m) e ≡ ordered l e ++ m
   ordered-early l m [] u b = refl
   ordered-early l m (x ∷ e) u b =
       ap (λ (k : List Completion). ordered k e) (insert-early x l m (u .0) b) ∙ ordered-early (inserted x l) m e (u .1) b
 
+  -- late ones go among the late ones
   ordered-late : (l m e : List Completion) → Behind a e → Upto a l → ordered (l ++ m) e ≡ l ++ ordered m e
   ordered-late l m [] b u = refl
   ordered-late l m (x ∷ e) b u =
@@ -84,22 +98,21 @@ module _ (a : ℕ) where
       ordered-append (l ++ m) e f ∙ ap (λ (k : List Completion). ordered k f) (ordered-early l m e v b)
       ∙ ordered-late (ordered l e) m f c (upto-ordered l e u v)
 
-  split-three : (e₁ f₁ e₂ f₂ e₃ f₃ : List Completion) → Upto a e₁ → Behind a f₁ → Upto a e₂ → Behind a f₂ → Upto a e₃ → Behind a f₃
-      → ordered [] ((e₁ ++ f₁) ++ (e₂ ++ f₂) ++ (e₃ ++ f₃)) ≡ ordered [] (e₁ ++ e₂ ++ e₃) ++ ordered [] (f₁ ++ f₂ ++ f₃)
-  split-three e₁ f₁ e₂ f₂ e₃ f₃ u₁ b₁ u₂ b₂ u₃ b₃ =
-      three (e₁ ++ f₁) (e₂ ++ f₂) (e₃ ++ f₃)
-      ∙ ap (λ (k : List Completion). ordered (ordered k (e₂ ++ f₂)) (e₃ ++ f₃)) (split-more [] [] e₁ f₁ tt tt u₁ b₁)
-      ∙ ap (λ (k : List Completion). ordered k (e₃ ++ f₃))
-      (split-more (ordered [] e₁) (ordered [] f₁) e₂ f₂ (upto-ordered [] e₁ tt u₁) (behind-ordered [] f₁ tt b₁) u₂ b₂)
-      ∙ split-more (ordered (ordered [] e₁) e₂) (ordered (ordered [] f₁) f₂) e₃ f₃
-      (upto-ordered (ordered [] e₁) e₂ (upto-ordered [] e₁ tt u₁) u₂)
-      (behind-ordered (ordered [] f₁) f₂ (behind-ordered [] f₁ tt b₁) b₂) u₃ b₃
-      ∙ ap₂ (λ (x y : List Completion). x ++ y) (sym (three e₁ e₂ e₃)) (sym (three f₁ f₂ f₃))
-    where
-      three : (x y z : List Completion) → ordered [] (x ++ y ++ z) ≡ ordered (ordered (ordered [] x) y) z
-      three x y z = ordered-append [] (x ++ y) z ∙ ap (λ (k : List Completion). ordered k z) (ordered-append [] x y)
+  -- so of all ports
+  split-all : (early late : ℕ → List Completion) → ((p : ℕ) → Upto a (early p)) → ((p : ℕ) → Behind a (late p)) → (ps : List ℕ)
+      → (l m : List Completion) → Upto a l → Behind a m
+      → ordered (l ++ m) (gathered (λ p. early p ++ late p) ps) ≡ ordered l (gathered early ps) ++ ordered m (gathered late ps)
+  split-all early late up down [] l m u b = refl
+  split-all early late up down (p ∷ ps) l m u b =
+      ordered-append (l ++ m) (early p ++ late p) (gathered (λ q. early q ++ late q) ps)
+      ∙ ap (λ (k : List Completion). ordered k (gathered (λ q. early q ++ late q) ps)) (split-more l m (early p) (late p) u b (up p) (down p))
+      ∙ split-all early late up down ps (ordered l (early p)) (ordered m (late p)) (upto-ordered l (early p) u (up p))
+      (behind-ordered m (late p) b (down p))
+      ∙ ap₂ (λ (x y : List Completion). x ++ y) (sym (ordered-append l (early p) (gathered early ps)))
+      (sym (ordered-append m (late p) (gathered late ps)))
 
 -- ---- moments counted from earlier
+-- the order of two does not depend on where they are counted from
 inserted-moved : (a : ℕ) (x : Completion) (l : List Completion) → inserted (movedBy a x) (map (movedBy a) l) ≡ map (movedBy a) (inserted x l)
 inserted-moved a x [] = refl
 inserted-moved a x (y ∷ l) =
@@ -117,16 +130,17 @@ inserted-moved a x (y ∷ l) =
     by true e = refl
     by false e = ap (λ (k : List Completion). movedBy a y ∷ k) e
 
+-- nor does that of a list
 ordered-moved : (a : ℕ) (l e : List Completion) → ordered (map (movedBy a) l) (map (movedBy a) e) ≡ map (movedBy a) (ordered l e)
 ordered-moved a l [] = refl
 ordered-moved a l (x ∷ e) =
     ap (λ (k : List Completion). ordered k (map (movedBy a) e)) (inserted-moved a x l) ∙ ordered-moved a (inserted x l) e
 
 -- ---- what is due of one connector
-module _ (t a b port : ℕ) (x : Known) where
+module _ (t a b : ℕ) (place : Place) (x : Known) where
   -- the completions of the whole wait are those of the first and, moved, those of the second
   due-add : (o : Option Transmission) → FitFor t o
-      → dueOf t (a + b) port x (onAir t o) ≡ dueOf t a port x (onAir t o) ++ map (movedBy a) (dueOf (t + a) b port x (onAir (t + a) o))
+      → dueOf t (a + b) place x (until t o) ≡ dueOf t a place x (until t o) ++ map (movedBy a) (dueOf (t + a) b place x (until (t + a) o))
   due-add none g = refl
   due-add (some s) g = by (complete s t) refl (complete s (t + a)) refl
     where
@@ -134,73 +148,80 @@ module _ (t a b port : ℕ) (x : Known) where
       late e = omega (arith, finish-first (fit-later g a) e .0)
 
       second : complete s (t + a) ≡ false → (w : Bool)
-          → cond w (record { owner = x .owner; moment = micros (finish s - t); port = port; id = s .fields .id } ∷ []) []
+          → cond w (record { owner = x .owner; moment = micros (finish s - t); place = place; id = s .fields .id } ∷ []) []
           ≡ map (movedBy a)
-          (cond w (record { owner = x .owner; moment = micros (finish s - (t + a)); port = port; id = s .fields .id } ∷ []) [])
+          (cond w (record { owner = x .owner; moment = micros (finish s - (t + a)); place = place; id = s .fields .id } ∷ []) [])
       second e true = rw (late e)
       second e false = refl
 
       by : (u : Bool) → complete s t ≡ u → (v : Bool) → complete s (t + a) ≡ v
-          → dueOf t (a + b) port x (cond u none (some s))
-          ≡ dueOf t a port x (cond u none (some s)) ++ map (movedBy a) (dueOf (t + a) b port x (cond v none (some s)))
+          → dueOf t (a + b) place x (cond u none (some s))
+          ≡ dueOf t a place x (cond u none (some s)) ++ map (movedBy a) (dueOf (t + a) b place x (cond v none (some s)))
       by true d true e = refl
       by true d false e = not-both (complete-later g a d) e
       by false d true e = rw (← add-assoc t a b, complete-later (fit-later g a) b e, e)
       by false d false e = rw (← add-assoc t a b, e) (second e (complete s (t + a + b)))
 
-  due-upto : (o : Option Transmission) → FitFor t o → Upto a (dueOf t a port x (onAir t o))
+  -- what the first wait completes is not later than its end
+  due-upto : (o : Option Transmission) → FitFor t o → Upto a (dueOf t a place x (until t o))
   due-upto none g = tt
   due-upto (some s) g = by (complete s t)
     where
       soon : (w : Bool) → complete s (t + a) ≡ w
-          → Upto a (cond w (record { owner = x .owner; moment = micros (finish s - t); port = port; id = s .fields .id } ∷ []) [])
+          → Upto a (cond w (record { owner = x .owner; moment = micros (finish s - t); place = place; id = s .fields .id } ∷ []) [])
       soon true e = (omega (arith, finish-tells (fit-later g a) .0 e), tt)
       soon false e = tt
 
-      by : (v : Bool) → Upto a (dueOf t a port x (cond v none (some s)))
+      by : (v : Bool) → Upto a (dueOf t a place x (cond v none (some s)))
       by true = tt
       by false = soon (complete s (t + a)) refl
 
-  due-behind : (o : Option Transmission) → FitFor t o → Behind a (map (movedBy a) (dueOf (t + a) b port x (onAir (t + a) o)))
+  -- what the second completes is later
+  due-behind : (o : Option Transmission) → FitFor t o → Behind a (map (movedBy a) (dueOf (t + a) b place x (until (t + a) o)))
   due-behind none g = tt
   due-behind (some s) g = by (complete s (t + a)) refl
     where
       soon : complete s (t + a) ≡ false → (w : Bool)
           → Behind a
           (map (movedBy a)
-          (cond w (record { owner = x .owner; moment = micros (finish s - (t + a)); port = port; id = s .fields .id } ∷ []) []))
+          (cond w (record { owner = x .owner; moment = micros (finish s - (t + a)); place = place; id = s .fields .id } ∷ []) []))
       soon e true = (omega (arith, finish-first (fit-later g a) e .0), tt)
       soon e false = tt
 
       by : (v : Bool) → complete s (t + a) ≡ v
-          → Behind a (map (movedBy a) (dueOf (t + a) b port x (cond v none (some s))))
+          → Behind a (map (movedBy a) (dueOf (t + a) b place x (cond v none (some s))))
       by true e = tt
       by false e = soon e (complete s (t + a + b))
 
 -- ---- the completions of the whole hub
 module _ (t : ℕ) (K : ℕ → Known) (fit : (p : ℕ) → FitFor t (K p .sending)) (a b : ℕ) where
+  -- what the second wait completes, counted from the first one's start
   abbrev later : ℕ → List Completion
   later port = map (movedBy a) (due (t + a) K b port)
 
+  -- a port completes in both what it completes in the whole
   both : (port : ℕ) → due t K (a + b) port ≡ due t K a port ++ later port
-  both port = due-add t a b port (K port) (K port .sending) (fit port)
+  both port = due-add t a b (placeOf 1 port) (K port) (K port .sending) (fit port)
 
+  -- those of the first are not later than its end
+  upto : (port : ℕ) → Upto a (due t K a port)
+  upto port = due-upto t a b (placeOf 1 port) (K port) (K port .sending) (fit port)
+
+  -- those of the second are
+  behind : (port : ℕ) → Behind a (later port)
+  behind port = due-behind t a b (placeOf 1 port) (K port) (K port .sending) (fit port)
+
+  -- all of the second are counted so
+  moved-all : (ps : List ℕ) → gathered later ps ≡ map (movedBy a) (gathered (due (t + a) K b) ps)
+  moved-all [] = refl
+  moved-all (p ∷ ps) =
+      ap (λ (l : List Completion). later p ++ l) (moved-all ps)
+      ∙ sym (map-append (movedBy a) (due (t + a) K b p) (gathered (due (t + a) K b) ps))
+
+  -- the completions of the whole are those of the first, and behind them those of the second
   pub completions-add : completions t K (a + b) ≡ completions t K a ++ map (movedBy a) (completions (t + a) K b)
   completions-add =
-      (λ i. ordered [] (both 1 i ++ both 2 i ++ both 3 i))
-      ∙ split-three a (due t K a 1) (later 1) (due t K a 2) (later 2) (due t K a 3) (later 3)
-      (upto 1) (behind 1) (upto 2) (behind 2) (upto 3) (behind 3)
+      (λ i. ordered [] (gathered (λ p. both p i) ports))
+      ∙ split-all a (due t K a) later upto behind ports [] [] tt tt
       ∙ ap (λ (l : List Completion). completions t K a ++ l)
-      (ap (ordered []) (moved-three (due (t + a) K b 1) (due (t + a) K b 2) (due (t + a) K b 3))
-      ∙ ordered-moved a [] (due (t + a) K b 1 ++ due (t + a) K b 2 ++ due (t + a) K b 3))
-    where
-      upto : (port : ℕ) → Upto a (due t K a port)
-      upto port = due-upto t a b port (K port) (K port .sending) (fit port)
-
-      behind : (port : ℕ) → Behind a (later port)
-      behind port = due-behind t a b port (K port) (K port .sending) (fit port)
-
-      moved-three : (x y z : List Completion)
-          → map (movedBy a) x ++ map (movedBy a) y ++ map (movedBy a) z ≡ map (movedBy a) (x ++ y ++ z)
-      moved-three x y z =
-          sym (map-append (movedBy a) (x ++ y) z ∙ ap (λ (l : List Completion). l ++ map (movedBy a) z) (map-append (movedBy a) x y))
+      (ap (ordered []) (moved-all ports) ∙ ordered-moved a [] (gathered (due (t + a) K b) ports))

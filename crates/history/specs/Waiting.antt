@@ -5,14 +5,14 @@ use mathlib.Core.Path.{_≡_}
 use mathlib.Core.List.{List, [], _∷_, _++_, map}
 use Rattle.meaning.specs.Table.{Call, waiting}
 use Rattle.pace.specs.Pace.{micros}
+use Rattle.connector.specs.declared.Answer.the-variants as answer
 use Rattle.connector.specs.declared.Completion.{Completion}
-use Rattle.hub.specs.declared.Answer.the-variants as answer
 use Rattle.hub.specs.declared.Hub.{Hub}
-use Rattle.history.specs.Run.{Outcome, called, run}
+use Rattle.history.specs.Run.{Called, called, run}
 
 -- a moment counted from earlier
 abbrev pub movedBy : ℕ → Completion → Completion
-movedBy a c = record { owner = c .owner; moment = micros (a + c .moment .0); port = c .port; id = c .id }
+movedBy a c = record { owner = c .owner; moment = micros (a + c .moment .0); place = c .place; id = c .id }
 
 -- the hub and its store after calls
 pub record Reached : Type 0 where
@@ -21,14 +21,13 @@ pub record Reached : Type 0 where
 
 abbrev pub reached : Hub → List ℕ → List Call → Reached
 reached hub store [] = record { hub = hub; store = store }
-reached hub store (call ∷ l) =
-    reached (called hub store call .step .decided .hub) (called hub store call .step .store) l
+reached hub store (call ∷ l) = reached (called hub store call .hub) (called hub store call .store) l
 
-abbrev pub at : Reached → Call → Outcome
+abbrev pub at : Reached → Call → Called
 at r call = called (r .hub) (r .store) call
 
-abbrev pub afterwards : Outcome → Reached
-afterwards o = record { hub = o .step .decided .hub; store = o .step .store }
+abbrev pub afterwards : Called → Reached
+afterwards c = record { hub = c .hub; store = c .store }
 
 -- a wait of a + b, and a wait of a with one of b behind it: the same completions, moments from the first one's start, the same hub, and the
 -- same is said to all later calls
@@ -43,7 +42,7 @@ pub record Composes (r : Reached) (a b : ℕ) : Type 0 where
 
 -- "A wait of 0 changes nothing.": taken, with the hub and the store as they were, nothing complete, and the same said to all later calls
 pub record ChangesNothing (r : Reached) (call : Call) : Type 0 where
-  pub accepted : at r call .step .decided .answer ≡ answer.Taken
+  pub accepted : at r call .answer ≡ answer.Taken
   pub hub : afterwards (at r call) ≡ r
   pub completions : at r call .completions ≡ []
   pub later : (l : List Call)

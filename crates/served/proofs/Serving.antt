@@ -17,7 +17,7 @@ use Rattle.hub.specs.Record.{freshHub}
 use Rattle.history.specs.Run.{called, run}
 use Rattle.history.specs.Waiting.{reached}
 use Rattle.history.proofs.Following.{from-fresh}
-use Rattle.served.specs.Served.{Server, server, Served, answering, onward, asks, servedPiece, served, closedBy, closedThen}
+use Rattle.served.specs.Served.{Server, server, Served, answering, thenServed, asks, servedPiece, served, closedBy, closedThen}
 use Rattle.served.specs.Served.{callOf, callsOf, leaves, ServedAs, SameServed}
 
 -- ---- calls one after the other
@@ -25,19 +25,19 @@ run-append : (hub : Hub) (store : List ℕ) (k l : List Call)
     → run hub store (k ++ l) ≡ run hub store k ++ run (reached hub store k .hub) (reached hub store k .store) l
 run-append hub store [] l = refl
 run-append hub store (call ∷ k) l =
-    let o = called hub store call .step in
-    rw (run-append (o .decided .hub) (o .store) k l)
+    let c = called hub store call in
+    rw (run-append (c .hub) (c .store) k l)
 
 reached-append : (hub : Hub) (store : List ℕ) (k l : List Call)
     → reached hub store (k ++ l) ≡ reached (reached hub store k .hub) (reached hub store k .store) l
 reached-append hub store [] l = refl
 reached-append hub store (call ∷ k) l =
-    let o = called hub store call .step in
-    reached-append (o .decided .hub) (o .store) k l
+    let c = called hub store call in
+    reached-append (c .hub) (c .store) k l
 
 answering-append : (hub : Hub) (store : List ℕ) (k l : List Call) (a b : Assembler) (buffer after : List ℕ)
     → answering hub store (k ++ l) b after
-    ≡ onward (answering hub store k a buffer) (λ (s : Server). answering (s .hub) (s .store) l b after)
+    ≡ thenServed (answering hub store k a buffer) (λ (s : Server). answering (s .hub) (s .store) l b after)
 answering-append hub store k l a b buffer after =
     λ i. record {
       said = run-append hub store k l i;
@@ -55,17 +55,17 @@ module _ (connection room : ℕ) where
   abbrev pub answered : Hub → List ℕ → Fed → Served
   answered hub store f = answering hub store (map (callOf connection room) (f .lines)) (f .assembler) (f .buffer)
 
-  answered-onward : (hub : Hub) (store : List ℕ) (f : Fed) (feeds : Assembler → List ℕ → Fed) (serves : Server → Served)
+  answered-then : (hub : Hub) (store : List ℕ) (f : Fed) (feeds : Assembler → List ℕ → Fed) (serves : Server → Served)
       → ((x : Hub) (y : List ℕ) (a : Assembler) (buffer : List ℕ) → serves (server x y a buffer) ≡ answered x y (feeds a buffer))
-      → onward (answered hub store f) serves ≡ answered hub store (feeding.onward f feeds)
-  answered-onward hub store f feeds serves same =
+      → thenServed (answered hub store f) serves ≡ answered hub store (feeding.onward f feeds)
+  answered-then hub store f feeds serves same =
       let calls = map (callOf connection room) (f .lines) in
       let r = reached hub store calls in
       let g = feeds (f .assembler) (f .buffer) in
       let more = map (callOf connection room) (g .lines) in
       let next = same (r .hub) (r .store) (f .assembler) (f .buffer) in
       let both = map-append (callOf connection room) (f .lines) (g .lines) in
-      ap (λ (x : Served). onward (answered hub store f) (λ (s : Server). x)) next
+      ap (λ (x : Served). thenServed (answered hub store f) (λ (s : Server). x)) next
       ∙ sym (answering-append hub store calls more (f .assembler) (g .assembler) (f .buffer) (g .buffer))
       ∙ sym (ap (λ (l : List Call). answering hub store l (g .assembler) (g .buffer)) both)
 
@@ -76,17 +76,17 @@ module _ (connection room : ℕ) where
   piece-answered (suc n) (b ∷ s) hub store a buffer =
       let step = takeStep a buffer (b ∷ s) in
       let left = drop (step .taken .used) (b ∷ s) in
-      ap (λ (l : List Call). onward (answering hub store l (step .taken .assembler) (step .buffer)) (servedPiece connection room n left))
+      ap (λ (l : List Call). thenServed (answering hub store l (step .taken .assembler) (step .buffer)) (servedPiece connection room n left))
       (asks-line (step .buffer) (step .taken .found))
-      ∙ answered-onward hub store (feeding.called step) (fedPiece n left) (servedPiece connection room n left) (piece-answered n left)
+      ∙ answered-then hub store (feeding.called step) (fedPiece n left) (servedPiece connection room n left) (piece-answered n left)
 
   -- answered at once or when all is fed, from any assembler and buffer
   pub served-answered : (pieces : List (List ℕ)) (hub : Hub) (store : List ℕ) (a : Assembler) (buffer : List ℕ)
       → served connection room pieces (server hub store a buffer) ≡ answered hub store (feed pieces a buffer)
   served-answered [] hub store a buffer = refl
   served-answered (p ∷ pieces) hub store a buffer =
-      ap (λ (x : Served). onward x (served connection room pieces)) (piece-answered (length p) p hub store a buffer)
-      ∙ answered-onward hub store (fedPiece (length p) p a buffer) (feed pieces) (served connection room pieces) (served-answered pieces)
+      ap (λ (x : Served). thenServed x (served connection room pieces)) (piece-answered (length p) p hub store a buffer)
+      ∙ answered-then hub store (fedPiece (length p) p a buffer) (feed pieces) (served connection room pieces) (served-answered pieces)
 
   -- where the lines are known
   served-calls : (pieces : List (List ℕ)) (hub : Hub) (store : List ℕ) (a : Assembler) (buffer : List ℕ) {l : List Line}
@@ -135,7 +135,7 @@ module _ (connection room : ℕ) where
   -- a closing between two streams of one connection: of the first one's unfinished line nothing is left
   pub closing-drops : (hub : Hub) (store buffer : List ℕ) → length buffer ≡ 4096 → (ps qs : List (List ℕ))
       → ServedAs hub store (callsOf connection room (flatten ps) ++ closing connection ∷ callsOf connection room (flatten qs))
-      (onward (served connection room ps (server hub store freshAssembler buffer)) (closedThen connection room qs))
+      (thenServed (served connection room ps (server hub store freshAssembler buffer)) (closedThen connection room qs))
   closing-drops hub store buffer h ps qs =
       let f = feed ps freshAssembler buffer in
       let g = feed qs freshAssembler (f .buffer) in
@@ -147,6 +147,6 @@ module _ (connection room : ℕ) where
       let first = served-calls ps hub store freshAssembler buffer (feed-is-lines ps buffer h) in
       let second = served-calls qs (c .hub) (c .store) (c .assembler) (c .buffer) (fresh-drops ps qs buffer h) in
       served-as (g .assembler) (g .buffer)
-      (ap (λ (x : Served). onward x (closedThen connection room qs)) first
-      ∙ ap (λ (x : Served). onward old (λ (s : Server). onward (closedBy connection s) (λ (t : Server). x))) second
+      (ap (λ (x : Served). thenServed x (closedThen connection room qs)) first
+      ∙ ap (λ (x : Served). thenServed old (λ (s : Server). thenServed (closedBy connection s) (λ (t : Server). x))) second
       ∙ sym (answering-append hub store before (closing connection ∷ after) (f .assembler) (g .assembler) (f .buffer) (g .buffer)))

@@ -40,8 +40,8 @@ answering hub store calls a buffer =
     }
 
 -- one thing done by the server, and the next by what the first has left
-abbrev pub onward : Served → (Server → Served) → Served
-onward x next = record { said = x .said ++ next (x .server) .said; server = next (x .server) .server }
+abbrev pub thenServed : Served → (Server → Served) → Served
+thenServed x next = record { said = x .said ++ next (x .server) .said; server = next (x .server) .server }
 
 -- The call that the assembler's answer asks of the hub; the bytes of a whole line stand in the buffer. The room is the size of the lent
 -- reply buffer.
@@ -62,13 +62,13 @@ servedPiece connection room zero piece s = record { said = []; server = s }
 servedPiece connection room (suc calls) [] s = record { said = []; server = s }
 servedPiece connection room (suc calls) (b ∷ piece) s =
     let step = takeStep (s .assembler) (s .buffer) (b ∷ piece) in
-    onward (stepServed connection room s step) (servedPiece connection room calls (drop (step .taken .used) (b ∷ piece)))
+    thenServed (stepServed connection room s step) (servedPiece connection room calls (drop (step .taken .used) (b ∷ piece)))
 
 -- the pieces of a stream, one after the other
 abbrev pub served : ℕ → ℕ → List (List ℕ) → Server → Served
 served connection room [] s = record { said = []; server = s }
 served connection room (piece ∷ pieces) s =
-    onward (servedPiece connection room (length piece) piece s) (served connection room pieces)
+    thenServed (servedPiece connection room (length piece) piece s) (served connection room pieces)
 
 -- "Closing a connection ...: its transmissions run on with no owner, and its unfinished line is dropped": the hub is told, and the
 -- assembler is a fresh one, on the buffer as it was left.
@@ -77,7 +77,7 @@ closedBy connection s = answering (s .hub) (s .store) (call.closing connection �
 
 -- and then a later connection of that number is served
 abbrev pub closedThen : ℕ → ℕ → List (List ℕ) → Server → Served
-closedThen connection room pieces s = onward (closedBy connection s) (served connection room pieces)
+closedThen connection room pieces s = thenServed (closedBy connection s) (served connection room pieces)
 
 -- ---- to say the same by the lines of a stream
 

@@ -10,10 +10,11 @@ use Rattle.code.specs.Letters.{learnt}
 use Rattle.code.specs.Next.{isLetter, countAt, offAt, afterOn, spelledAt, letterAt, begunAt, nextPair}
 use Rattle.code.specs.Read.{readCode}
 use Rattle.code.proofs.Smallest.{shortest-count}
-use Rattle.request.specs.Name.{nameAt}
+use Rattle.request.specs.Name.{candidate, wordAt}
 use Rattle.request.specs.Address.{partAt, portAt, addressAt, addressFault}
-use Rattle.request.specs.Fields.{capped, sentAt}
 use Rattle.request.specs.Request.{addressed, readRequest}
+use Rattle.command.specs.Fields.{capped, fieldsAt}
+use Rattle.command.specs.Read.{codeAt, commandAt}
 use Rattle.writer.specs.CodeText.{codeText}
 use Rattle.meaning.specs.Line.{isNumber, within, isAddress, isCount, codeIn}
 use Rattle.meaning.specs.Time.{total, done, complete, firstMicro, finish, started}
@@ -22,13 +23,13 @@ use Rattle.meaning.specs.Table.{set-IR, getstate, sendir, request}
 use Rattle.pace.specs.Pace.{endOf, passed}
 use Rattle.reply.specs.Reply.{replyText}
 use Rattle.connector.specs.Send.{runOf}
-use Rattle.hub.specs.Send.{sendStep, codeStep, sentStep}
+use Rattle.connector.specs.Step.{commandStep, sendStep}
 use Rattle.hub.specs.Line.{lineStep}
-use Rattle.hub.specs.Wait.{waitedStep}
+use Rattle.hub.specs.Wait.{waitCall}
 use Rattle.worked.specs.Table.{Holds, table}
 
 pub worked : Holds table
-unfolding numberOf numberAt endsField afterComma fieldWithin decimal legal samePair learnt isLetter countAt offAt afterOn spelledAt letterAt begunAt nextPair readCode nameAt partAt portAt addressAt addressFault capped sentAt addressed readRequest codeText endOf firstMicro passed replyText isNumber within isAddress isCount codeIn total done complete finish started onAir set-IR getstate sendir request runOf sendStep codeStep sentStep lineStep waitedStep
+unfolding numberOf numberAt endsField afterComma fieldWithin decimal legal samePair learnt isLetter countAt offAt afterOn spelledAt letterAt begunAt nextPair readCode candidate wordAt partAt portAt addressAt addressFault addressed readRequest capped fieldsAt codeAt commandAt codeText endOf firstMicro passed replyText isNumber within isAddress isCount codeIn total done complete finish started onAir set-IR getstate sendir request runOf commandStep sendStep lineStep waitCall
 worked = (
   (refl, refl),
   (

@@ -6,13 +6,15 @@ use mathlib.Core.Path.{_≡_}
 use mathlib.Core.List.{List, [], _∷_, map}
 use mathlib.Core.Option.{none, some}
 use Rattle.laws.specs.Bytes.{bytes}
+use Rattle.words.specs.Pairs.{pairsOf}
 use Rattle.meaning.specs.Table.{Answer, taken, replied, Call, line, reading, waiting, Said, said}
 use Rattle.code.specs.declared.limits.Smallest.the-variants.{Count}
 use Rattle.code.specs.Limits.{SmallestCount}
-use Rattle.code.specs.Read.{Reading, pairs, fault, readCode}
+use Rattle.code.specs.declared.Code.{Code}
+use Rattle.code.specs.declared.Code.the-variants.{Fault}
+use Rattle.code.specs.Read.{pairs, readOf, readCode}
 use Rattle.writer.specs.declared.Form.the-variants.{Lettered}
 use Rattle.writer.specs.CodeText.{codeText}
-use Rattle.writer.specs.Given.{pairsOf}
 use Rattle.hub.specs.Record.{freshHub}
 use Rattle.history.specs.Run.{run}
 
@@ -21,8 +23,8 @@ pub data Row : Type 0 where
   lettered : List ℕ → String → Row
   -- the smallest legal count at a frequency
   smallest : ℕ → ℕ → Row
-  -- a code's text, read at 40000 Hz
-  code : String → Reading → Row
+  -- a code's text, and what it is read as at 40000 Hz
+  code : String → Code → Row
   -- a line to a fresh hub, and its reply
   answered : String → String → Row
   -- a line to a fresh hub that is taken, and the completion of connector 1 at the end of a wait of so many microseconds
@@ -48,7 +50,7 @@ abbrev pub HoldsOf : Row → Type 0
 HoldsOf (lettered counts text) =
     (codeText Lettered (pairsOf counts) ≡ bytes text) × (readCode 40000 (bytes text) 0 ≡ pairs (pairsOf counts))
 HoldsOf (smallest freq count) = SmallestCount freq (Count count)
-HoldsOf (code text gives) = readCode 40000 (bytes text) 0 ≡ gives
+HoldsOf (code text gives) = readOf (readCode 40000 (bytes text) 0) ≡ gives
 HoldsOf (answered text reply) = (store : List ℕ) → answers (run freshHub store (asks 0 text ∷ [])) ≡ (told reply ∷ [])
 HoldsOf (completes text n) =
     (store : List ℕ) → answers (run freshHub store (asks 0 text ∷ waiting n ∷ [])) ≡ (taken [] ∷ completion n 0 "completeir,1:1,0\r" ∷ [])
@@ -65,10 +67,10 @@ table =
     ∷ smallest 40000 4
     ∷ smallest 60000 5
     ∷ smallest 500000 40
-    ∷ code "B" (fault 22)
-    ∷ code "4A" (fault 21)
-    ∷ code "4,5A,8,9" (fault 9)
-    ∷ code "4,5,8" (fault 10)
+    ∷ code "B" (Fault 22)
+    ∷ code "4A" (Fault 21)
+    ∷ code "4,5A,8,9" (Fault 9)
+    ∷ code "4,5,8" (Fault 10)
     ∷ answered "sendir,5:3,3456,23400,1,1,24,48,24,960" "ERR_0:0,002\r"
     ∷ answered "sendir,1:2,23333,40000,2,3,24,48,24,48,960" "ERR_1:2,010\r"
     ∷ answered "sendir,1:3,0,40000,2,2,24,48,24,960" "ERR_1:3,007\r"

@@ -97,6 +97,10 @@ fn request_at(s: &[u8]) -> Input {
 pub fn input_of(s: &[u8]) -> Input {
     let b = text::field::byte_at(s, 0);
     if text::number::is_digit(b) {
+        // one digit, as nearly every connection has, is read at once
+        if is_space(s, 1) {
+            return Input::Line((b % 16) as u64, 2);
+        }
         return request_at(s);
     }
     if !is_space(s, 1) {

@@ -1,73 +1,30 @@
 // The bench: a hub on standard input and output. It reads what there is, in blocks, and writes every answer to that before it reads
 // again, so that whoever is at the other end sees each reply at once, and a long script needs no more memory than a short one.
+use crate::input::Input;
+use crate::state::Begun;
+use crate::state::State;
 use hub::Hub;
+use hub::HubChange;
+use hub::Store;
 use libc::STDIN_FILENO;
 use libc::STDOUT_FILENO;
 ghost use Prim.Native.Nat.{_≤_};
-ghost use lib.ListN.{length};
 ghost use Rattle.hub.specs.Record.{SoundHub};
 
 mod input;
 mod output;
+mod scan;
+mod state;
 mod turn;
-
-// What goes from line to line: the hub, the line so far (its length, and whether there was more than has room), and the bytes
-// that are to be written.
-pub struct State {
-    pub hub: Hub,
-    pub size: usize,
-    pub over: bool,
-    pub used: usize,
-}
-
-fn fresh() -> State
-    ensures { λ r. ⌜ SoundHub (r .hub) ⌝ }
-{
-    State {
-        hub: Hub::fresh(),
-        size: 0,
-        over: false,
-        used: 0,
-    }
-}
-
-// The first bytes of a text.
-fn front(text: &[u8], size: usize) -> &[u8] {
-    if size <= text.len() {
-        &text[..size]
-    } else {
-        text
-    }
-}
-
-// Writes what is to be written.
-fn flush(out: &[u8], used: usize) {
-    io::write_all(STDOUT_FILENO, front(out, used));
-}
 
 fn flushed(state: State, out: &[u8]) -> State
     requires { ⌜ SoundHub (state .hub) ⌝ }
     ensures { λ r. ⌜ SoundHub (r .hub) ⌝ }
 {
-    flush(out, state.used);
+    output::flush(out, state.used);
     let mut next = state;
     next.used = 0;
     next
-}
-
-// Where a line ends that goes on at a place of a block: at its LF, or with the block.
-fn line_end(block: &[u8], from: usize) -> usize
-    requires { ⌜ from ≤ length (now block) ⌝ }
-    ensures { λ r. ⌜ (from ≤ r) × (r ≤ length (now (block .entry))) ⌝ }
-{
-    let mut i = from;
-    while i < block.len() {
-        if block[i] == b'\n' {
-            return i;
-        }
-        i += 1;
-    }
-    i
 }
 
 // Puts bytes behind the line so far, as far as there is room; gives the length of what there is then.
@@ -88,73 +45,106 @@ fn append(line: &mut [u8], size: usize, part: &[u8]) -> usize
 }
 
 // More of a line that is not ended.
-fn taken(state: State, line: &mut [u8], part: &[u8]) -> State
-    requires { ⌜ SoundHub (state .hub) ⌝ }
-    ensures { λ r. ⌜ SoundHub (r .hub) ⌝ }
-{
-    let size = append(line, state.size, part);
-    let mut next = state;
-    next.size = size;
-    if size - state.size < part.len() {
-        next.over = true;
-        return next;
+fn taken(begun: Begun, line: &mut [u8], part: &[u8]) -> Begun {
+    let size = append(line, begun.size, part);
+    if size - begun.size < part.len() {
+        return Begun { size, over: true };
     }
-    next
+    Begun {
+        size,
+        over: begun.over,
+    }
 }
 
-// The rest of a line, which an LF ends. A line that came whole is not copied.
-fn ended(
-    state: State,
-    store: &mut [u16; 1560],
-    line: &mut [u8],
-    out: &mut [u8],
-    part: &[u8],
-) -> State
-    requires { ⌜ SoundHub (state .hub) ⌝ }
-    ensures { λ r. ⌜ SoundHub (r .hub) ⌝ }
-{
-    let used = turn::with_room(out, state.used);
-    if state.size == 0 {
+// The rest of a line, which an LF ends. One that came whole is not copied.
+fn ended(begun: Begun, line: &mut [u8], part: &[u8]) -> Begun {
+    if begun.size == 0 {
         if part.len() <= input::MOST_BYTES {
-            let hub = state.hub;
-            return turn::whole(hub, store, part, out, used);
+            return begun;
         }
     }
-    let all = taken(state, line, part);
-    let hub = all.hub;
-    if all.over {
-        return turn::cut_off(hub, front(line, all.size), out, used);
-    }
-    turn::whole(hub, store, front(line, all.size), out, used)
+    taken(begun, line, part)
 }
 
-// The bytes of a block.
-fn fed(
-    state: State,
-    store: &mut [u16; 1560],
-    line: &mut [u8],
-    out: &mut [u8],
-    block: &[u8],
-) -> State
+// The line: what came, or what was put together.
+fn line_of<'a>(begun: Begun, part: &'a [u8], line: &'a [u8]) -> &'a [u8] {
+    if begun.size == 0 {
+        return part;
+    }
+    scan::front(line, begun.size)
+}
+
+// The bytes of a block. The hub is changed in its place, and not copied for a line.
+fn fed(state: State, store: &mut Store, line: &mut [u8], out: &mut [u8], block: &[u8]) -> State
     requires { ⌜ SoundHub (state .hub) ⌝ }
     ensures { λ r. ⌜ SoundHub (r .hub) ⌝ }
 {
-    let mut next = state;
+    let mut hub = state.hub;
+    let mut begun = state.begun;
+    let mut used = state.used;
     let mut i = 0;
     while i < block.len() {
-        let end = line_end(block, i);
+        let end = scan::line_end(block, i);
+        let part = &block[i..end];
         if end == block.len() {
-            return taken(next, line, &block[i..end]);
+            begun = taken(begun, line, part);
+            return State { hub, begun, used };
         }
-        next = ended(next, store, line, out, &block[i..end]);
-        i = end + 1;
+        let next = end + 1;
+        let all = ended(begun, line, part);
+        let text = line_of(all, part, line);
+        let from = output::with_room(out, used);
+        begun = Begun::nothing();
+        match input::input_of(text) {
+            Input::Other => {
+                used = output::put_refusal(out, from, 0);
+                i = next;
+            }
+            Input::Line(connection, at) => {
+                let request = scan::behind(text, at);
+                let changed = turn::line(hub, store, connection, request, all.over, out, from);
+                used = changed.used;
+                let change = changed.change;
+                match change {
+                    HubChange::Nothing => {
+                        i = next;
+                    }
+                    HubChange::Connector { slot, connector } => {
+                        hub.connectors[slot] = connector;
+                        i = next;
+                    }
+                    HubChange::Relay { slot, state } => {
+                        hub.relays[slot] = state;
+                        i = next;
+                    }
+                }
+            }
+            Input::Reading(port, value) => {
+                let passed = turn::reading(hub, port, value, out, from);
+                used = passed.used;
+                hub = passed.hub;
+                i = next;
+            }
+            Input::Closing(connection) => {
+                let passed = turn::closing(hub, connection, out, from);
+                used = passed.used;
+                hub = passed.hub;
+                i = next;
+            }
+            Input::Waiting(micros) => {
+                let passed = turn::waiting(hub, micros, out, from);
+                used = passed.used;
+                hub = passed.hub;
+                i = next;
+            }
+        }
     }
-    next
+    State { hub, begun, used }
 }
 
 // Bytes after the last LF are a line of another form.
 fn end(state: State) {
-    if state.size != 0 {
+    if state.begun.size != 0 {
         io::write_all(STDOUT_FILENO, b"!\n");
     }
 }
@@ -162,11 +152,11 @@ fn end(state: State) {
 // Reads and answers until the input ends. A proved loop has to end, and nothing says that an input does: so it counts its turns
 // down from a number that no run uses up.
 fn run() {
-    let mut store = [0u16; 1560];
+    let mut store = [0u16; Hub::COUNTS];
     let mut line = [0u8; input::MOST_BYTES];
     let mut out = [0u8; 65536];
     let mut block = [0u8; 65536];
-    let mut state = fresh();
+    let mut state = State::fresh();
     let mut turns = u64::MAX;
     while turns > 0 {
         let got = libc::read(STDIN_FILENO, &mut block);
@@ -174,7 +164,13 @@ fn run() {
         if count == 0 {
             return end(state);
         }
-        let next = fed(state, &mut store, &mut line, &mut out, front(&block, count));
+        let next = fed(
+            state,
+            &mut store,
+            &mut line,
+            &mut out,
+            scan::front(&block, count),
+        );
         state = flushed(next, &out);
         turns -= 1;
     }

@@ -1,5 +1,7 @@
 // What is to be written, put behind what there is as far as there is room. A turn begins with room for all that it can say.
+use crate::scan;
 use hub::Owner;
+use libc::STDOUT_FILENO;
 
 pub fn put_byte(out: &mut [u8], used: usize, b: u8) -> usize {
     if used < out.len() {
@@ -66,6 +68,27 @@ pub fn put_replies(out: &mut [u8], used: usize, who: Owner, text: &[u8], size: u
     o
 }
 
+// The line of a reply for a connection of one digit; the reply's bytes, so many with the CR, stand behind room for that digit and a space.
+pub fn put_line(out: &mut [u8], used: usize, connection: u64, size: usize) -> usize {
+    if size == 0 {
+        return used;
+    }
+    if out.len() < size {
+        return used;
+    }
+    if out.len() - size < 2 {
+        return used;
+    }
+    if out.len() - size - 2 < used {
+        return used;
+    }
+    let end = used + 2 + size;
+    out[used] = b'0' + (connection % 10) as u8;
+    out[used + 1] = b' ';
+    out[end - 1] = b'\n';
+    end
+}
+
 // A call's refusal, or a line of another form where the number is 0.
 pub fn put_refusal(out: &mut [u8], used: usize, number: u64) -> usize {
     let o = put_byte(out, used, b'!');
@@ -74,4 +97,20 @@ pub fn put_refusal(out: &mut [u8], used: usize, number: u64) -> usize {
     }
     let p = put_decimal(out, o, number);
     put_byte(out, p, b'\n')
+}
+
+// Writes what is to be written.
+pub fn flush(out: &[u8], used: usize) {
+    io::write_all(STDOUT_FILENO, scan::front(out, used));
+}
+
+// Where the next turn begins to write: there is room for all that it can say, or it is made.
+pub fn with_room(out: &[u8], used: usize) -> usize {
+    if used < out.len() {
+        if 512 <= out.len() - used {
+            return used;
+        }
+    }
+    flush(out, used);
+    0
 }

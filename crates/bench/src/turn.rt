@@ -1,68 +1,108 @@
-// One line of the script done.
-use crate::State;
-use crate::input::Input;
+// One line of the script done: what is to be written, and what becomes of the hub.
 use crate::output;
+use crate::scan;
 use hub::Answer;
+use hub::Answered;
 use hub::Completion;
 use hub::Completions;
-use hub::Decided;
 use hub::Hub;
+use hub::HubChange;
 use hub::Owner;
+use hub::Store;
 use hub::Written;
 use pace::Micros;
-ghost use Rattle.hub.specs.Record.{SoundHub};
+use reply::Reply;
+use request::Fixed;
+ghost use Rattle.hub.specs.Record.{SoundHub, InRange, applied};
 
-// The state behind a line: the hub and what is to be written, and nothing of the line.
-fn next_state(hub: Hub, used: usize) -> State
-    requires { ⌜ SoundHub hub ⌝ }
-    ensures { λ r. ⌜ SoundHub (r .hub) ⌝ }
-{
-    State {
-        hub,
-        size: 0,
-        over: false,
-        used,
+// How many bytes are to be written, and what changes of the hub.
+pub struct Changed {
+    pub used: usize,
+    pub change: HubChange,
+}
+
+// The same with the whole hub.
+pub struct Passed {
+    pub used: usize,
+    pub hub: Hub,
+}
+
+// Whether a reply is one line: the device list alone is not.
+fn is_one_line(reply: Reply) -> bool {
+    match reply {
+        Reply::Fixed(fixed) => match fixed {
+            Fixed::Devices => false,
+            Fixed::Version => true,
+        },
+        _ => true,
     }
 }
 
-// An answer as lines: the asker's, then the owner's.
-fn put_answer(
+// A reply of several lines, or one that is for an owner too: its bytes are kept aside, and each line is put for each of them.
+fn put_apart(out: &mut [u8], used: usize, connection: u64, also: Owner, size: usize) -> usize {
+    let from = scan::within(out, used, 2);
+    let mut reply = [0u8; Reply::ROOM];
+    let mut i: usize = 0;
+    while i < Reply::ROOM {
+        if size <= i {
+            break;
+        }
+        reply[i] = text::field::byte_at(out, scan::within(out, from, i));
+        i += 1;
+    }
+    let o = output::put_replies(out, used, Owner::Connection(connection), &reply, size);
+    match also {
+        Owner::Nobody => o,
+        Owner::Connection(_) => output::put_replies(out, o, also, &reply, size),
+    }
+}
+
+// A reply as lines, the asker's before the owner's; its bytes stand behind room for the asker's number.
+fn put_reply(
     out: &mut [u8],
     used: usize,
-    answer: Answer,
     connection: u64,
-    reply: &[u8],
+    reply: Reply,
+    also: Owner,
     size: usize,
 ) -> usize {
-    match answer {
-        Answer::Refused(number) => output::put_refusal(out, used, number),
-        Answer::Taken => used,
-        Answer::Reply(_, told) => {
-            let o = output::put_replies(out, used, Owner::Connection(connection), reply, size);
-            match told {
-                Owner::Nobody => o,
-                Owner::Connection(_) => output::put_replies(out, o, told, reply, size),
+    match also {
+        Owner::Connection(_) => put_apart(out, used, connection, also, size),
+        Owner::Nobody => {
+            if is_one_line(reply) {
+                output::put_line(out, used, connection, size)
+            } else {
+                put_apart(out, used, connection, also, size)
             }
         }
     }
 }
 
-// A call that has no reply.
+// The answer to a line.
+fn put_answer(out: &mut [u8], used: usize, connection: u64, answer: Answer, size: usize) -> usize {
+    match answer {
+        Answer::Refused(number) => output::put_refusal(out, used, number),
+        Answer::Taken => used,
+        Answer::Reply { reply, also } => put_reply(out, used, connection, reply, also, size),
+    }
+}
+
+// The answer to a call that has no reply.
 fn put_call(out: &mut [u8], used: usize, answer: Answer) -> usize {
     match answer {
         Answer::Refused(number) => output::put_refusal(out, used, number),
         Answer::Taken => used,
-        Answer::Reply(_, _) => used,
+        Answer::Reply { reply: _, also: _ } => used,
     }
 }
 
 fn put_completion(out: &mut [u8], used: usize, completion: Completion) -> usize {
-    let mut reply = [0u8; 128];
+    let mut reply = [0u8; Reply::ROOM];
     let o = output::put_byte(out, used, b'@');
     let p = output::put_decimal(out, o, completion.moment.0);
     let q = output::put_byte(out, p, b' ');
     let owner = completion.owner;
-    match hub::calls::write_completion(completion, &mut reply) {
+    match Hub::write_completion(completion, &mut reply) {
         Written::Refused(_) => q,
         Written::Line(size) => output::put_replies(out, q, owner, &reply, size),
     }
@@ -72,8 +112,8 @@ fn put_completions(out: &mut [u8], used: usize, completions: Completions) -> usi
     let count = completions.count;
     let items = completions.items;
     let mut o = used;
-    let mut i = 0;
-    while i < 3 {
+    let mut i: usize = 0;
+    while i < Hub::CONNECTORS {
         if count <= i {
             return o;
         }
@@ -83,104 +123,84 @@ fn put_completions(out: &mut [u8], used: usize, completions: Completions) -> usi
     o
 }
 
-fn line_turn(
+// What a request is answered; where only its first bytes were kept, it is overlong.
+fn answered(
     hub: Hub,
-    store: &mut [u16; 1560],
+    store: &mut Store,
     connection: u64,
-    text: &[u8],
+    request: &[u8],
+    over: bool,
+    reply: &mut [u8],
+) -> Answered
+    requires { ⌜ SoundHub hub ⌝ }
+    ensures { λ r. ⌜ InRange (r .change) × SoundHub (applied hub (r .change)) ⌝ }
+{
+    if over {
+        return Hub::overlong_line(connection, reply);
+    }
+    hub.line(store, connection, request, reply)
+}
+
+// A request from a connection; the reply is written where it is to stand, behind room for a digit and a space.
+pub fn line(
+    hub: Hub,
+    store: &mut Store,
+    connection: u64,
+    request: &[u8],
+    over: bool,
     out: &mut [u8],
     used: usize,
-) -> State
+) -> Changed
+    requires { ⌜ SoundHub hub ⌝ }
+    ensures { λ r. ⌜ InRange (r .change) × SoundHub (applied hub (r .change)) ⌝ }
+{
+    let from = scan::within(out, used, 2);
+    let answered = answered(hub, store, connection, request, over, &mut out[from..]);
+    let answer = answered.answer;
+    let change = answered.change;
+    Changed {
+        used: put_answer(out, used, connection, answer, answered.size),
+        change,
+    }
+}
+
+pub fn reading(hub: Hub, port: u64, value: u64, out: &mut [u8], used: usize) -> Passed
     requires { ⌜ SoundHub hub ⌝ }
     ensures { λ r. ⌜ SoundHub (r .hub) ⌝ }
 {
-    let mut reply = [0u8; 128];
-    let answered = hub::line::line(hub, store, connection, text, &mut reply);
-    let decided = answered.decided;
+    let decided = hub.reading(port, value);
     let answer = decided.answer;
-    let o = put_answer(out, used, answer, connection, &reply, answered.size);
-    let next = decided.hub;
-    next_state(next, o)
+    let change = decided.change;
+    Passed {
+        used: put_call(out, used, answer),
+        hub: hub.applied(change),
+    }
 }
 
-fn overlong_turn(hub: Hub, connection: u64, out: &mut [u8], used: usize) -> State
+pub fn closing(hub: Hub, connection: u64, out: &mut [u8], used: usize) -> Passed
     requires { ⌜ SoundHub hub ⌝ }
     ensures { λ r. ⌜ SoundHub (r .hub) ⌝ }
 {
-    let mut reply = [0u8; 128];
-    let answered = hub::line::overlong_line(hub, connection, &mut reply);
-    let decided = answered.decided;
-    let answer = decided.answer;
-    let o = put_answer(out, used, answer, connection, &reply, answered.size);
-    let next = decided.hub;
-    next_state(next, o)
+    let moved = hub.closed(connection);
+    let answer = moved.answer;
+    let next = moved.hub;
+    Passed {
+        used: put_call(out, used, answer),
+        hub: next,
+    }
 }
 
-fn call_turn(decided: Decided, out: &mut [u8], used: usize) -> State
-    requires { ⌜ SoundHub (decided .hub) ⌝ }
-    ensures { λ r. ⌜ SoundHub (r .hub) ⌝ }
-{
-    let answer = decided.answer;
-    let o = put_call(out, used, answer);
-    let next = decided.hub;
-    next_state(next, o)
-}
-
-fn wait_turn(hub: Hub, micros: u64, out: &mut [u8], used: usize) -> State
+pub fn waiting(hub: Hub, micros: u64, out: &mut [u8], used: usize) -> Passed
     requires { ⌜ SoundHub hub ⌝ }
     ensures { λ r. ⌜ SoundHub (r .hub) ⌝ }
 {
-    let waited = hub::wait::wait(hub, Micros(micros));
-    let decided = waited.decided;
+    let waited = hub.wait(Micros(micros));
     let completions = waited.completions;
-    let answer = decided.answer;
+    let answer = waited.answer;
+    let next = waited.hub;
     let o = put_call(out, used, answer);
-    let p = put_completions(out, o, completions);
-    let next = decided.hub;
-    next_state(next, p)
-}
-
-// A line that is whole.
-pub fn whole(hub: Hub, store: &mut [u16; 1560], line: &[u8], out: &mut [u8], used: usize) -> State
-    requires { ⌜ SoundHub hub ⌝ }
-    ensures { λ r. ⌜ SoundHub (r .hub) ⌝ }
-{
-    match crate::input::input_of(line) {
-        Input::Other => next_state(hub, output::put_refusal(out, used, 0)),
-        Input::Line(connection, at) => {
-            if at <= line.len() {
-                line_turn(hub, store, connection, &line[at..], out, used)
-            } else {
-                next_state(hub, used)
-            }
-        }
-        Input::Reading(port, value) => call_turn(hub::calls::reading(hub, port, value), out, used),
-        Input::Closing(connection) => call_turn(hub::calls::closed(hub, connection), out, used),
-        Input::Waiting(micros) => wait_turn(hub, micros, out, used),
+    Passed {
+        used: put_completions(out, o, completions),
+        hub: next,
     }
-}
-
-// A line of which only the first bytes were kept: a request in it is overlong, and no other form is so long.
-pub fn cut_off(hub: Hub, line: &[u8], out: &mut [u8], used: usize) -> State
-    requires { ⌜ SoundHub hub ⌝ }
-    ensures { λ r. ⌜ SoundHub (r .hub) ⌝ }
-{
-    match crate::input::input_of(line) {
-        Input::Line(connection, _) => overlong_turn(hub, connection, out, used),
-        Input::Other => next_state(hub, output::put_refusal(out, used, 0)),
-        Input::Reading(_, _) => next_state(hub, output::put_refusal(out, used, 0)),
-        Input::Closing(_) => next_state(hub, output::put_refusal(out, used, 0)),
-        Input::Waiting(_) => next_state(hub, output::put_refusal(out, used, 0)),
-    }
-}
-
-// Where the next turn begins to write: there is room for all that it can say, or it is made.
-pub fn with_room(out: &[u8], used: usize) -> usize {
-    if used < out.len() {
-        if 512 <= out.len() - used {
-            return used;
-        }
-    }
-    crate::flush(out, used);
-    0
 }

@@ -1,34 +1,50 @@
 // The carriers of a fresh hub some microseconds after a sendir to connector 1.
+use crate::say;
 use hub::Hub;
 use pace::Micros;
+use reply::Reply;
 
 fn say_carrier(on: bool) {
     if on {
-        crate::say(b"on");
+        say::text(b"on");
     } else {
-        crate::say(b"off");
+        say::text(b"off");
     }
 }
 
-// Connector 1's carrier is as expected; connectors 2 and 3 transmit nothing.
+// Whether every connector but the first has its carrier off.
+fn others_off(carriers: [bool; Hub::CONNECTORS]) -> bool {
+    let mut slot: usize = 1;
+    while slot < Hub::CONNECTORS {
+        if carriers[slot] {
+            return false;
+        }
+        slot += 1;
+    }
+    true
+}
+
+// Connector 1's carrier is as expected; the others transmit nothing.
 fn carrier_vector(line: &[u8], micros: u64, expected: bool) {
-    let mut store = [0u16; 1560];
-    let mut reply = [0u8; 128];
-    let answered = hub::line::line(Hub::fresh(), &mut store, 0, line, &mut reply);
-    let decided = answered.decided;
-    let waited = hub::wait::wait(decided.hub, Micros(micros));
-    let after = waited.decided;
-    let carriers = hub::calls::carriers(after.hub, &store);
+    let mut store = [0u16; Hub::COUNTS];
+    let mut reply = [0u8; Reply::ROOM];
+    let fresh = Hub::fresh();
+    let answered = fresh.line(&mut store, 0, line, &mut reply);
+    let change = answered.change;
+    let sending = fresh.applied(change);
+    let waited = sending.wait(Micros(micros));
+    let later = waited.hub;
+    let carriers = later.carriers(&store);
     let got = carriers[0];
-    crate::say(b"carrier ");
-    crate::say_number(micros);
-    crate::say(b" after ");
-    crate::say(line);
-    crate::say(b": expected ");
+    say::text(b"carrier ");
+    say::number(micros);
+    say::text(b" after ");
+    say::text(line);
+    say::text(b": expected ");
     say_carrier(expected);
-    crate::say(b", got ");
+    say::text(b", got ");
     say_carrier(got);
-    crate::say_verdict(got == expected && !carriers[1] && !carriers[2]);
+    say::verdict(got == expected && others_off(carriers));
 }
 
 // At 40,000 Hz a period lasts 25 µs: on for 34, off for 48, on for 24, off for 960 periods, and the second copy from the third count on.

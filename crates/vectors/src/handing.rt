@@ -1,22 +1,23 @@
 // Codes handed out pair by pair, through a reader of the text.
+use crate::say;
 use reader::Piece;
 use reader::Progress;
 use words::Pair;
 
 fn say_pair(on: u64, off: u64) {
-    crate::say_number(on);
-    crate::say(b",");
-    crate::say_number(off);
-    crate::say(b" ");
+    say::number(on);
+    say::text(b",");
+    say::number(off);
+    say::text(b" ");
 }
 
 // What stands behind the pairs: a fault, or the end for 0.
 fn say_last(fault: u64) {
     if fault == 0 {
-        crate::say(b"end");
+        say::text(b"end");
     } else {
-        crate::say(b"fault ");
-        crate::say_number(fault);
+        say::text(b"fault ");
+        say::number(fault);
     }
 }
 
@@ -81,13 +82,13 @@ fn hand_all(text: &[u8], counts: &[u64], fault: u64) -> bool {
 
 // The counts that a text hands out, two to a pair, and then a fault, or 0 for the end.
 fn vector(text: &[u8], counts: &[u64], fault: u64) {
-    crate::say(b"handed out ");
-    crate::say(text);
-    crate::say(b": expected ");
+    say::text(b"handed out ");
+    say::text(text);
+    say::text(b": expected ");
     say_expected(counts, fault);
-    crate::say(b", got ");
+    say::text(b", got ");
     let ok = hand_all(text, counts, fault);
-    crate::say_verdict(ok);
+    say::verdict(ok);
 }
 
 pub fn vectors() {

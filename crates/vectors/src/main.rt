@@ -1,82 +1,68 @@
 // Runs worked values of document 01, those that are too long to be proved, and cases of its rules, and prints each with what was
 // expected.
-use code::CodeRead;
+use code::Code;
 use code::limits::Smallest;
+use command::given::Command;
 use hub::Answer;
 use hub::Hub;
-use libc::STDOUT_FILENO;
 use pace::Micros;
+use reply::Reply;
+use request::Place;
 use request::Request;
 use words::Fields;
 use writer::Form;
-use writer::sendir::Command;
 use writer::sendir::Written;
 
 mod carriers;
 mod fill;
 mod handing;
+mod say;
 
-fn say(text: &[u8]) {
-    io::write_all(STDOUT_FILENO, text);
-}
-
-fn say_number(n: u64) {
-    io::print_decimal(STDOUT_FILENO, n);
-}
-
-fn say_verdict(ok: bool) {
-    if ok {
-        say(b": ok\n");
-    } else {
-        say(b": FAILS\n");
-    }
-}
-
-fn say_read(read: CodeRead) {
+fn say_read(read: Code) {
     match read {
-        CodeRead::Fault(number) => {
-            say(b"fault ");
-            say_number(number);
+        Code::Fault(number) => {
+            say::text(b"fault ");
+            say::number(number);
         }
-        CodeRead::Pairs(count) => {
-            say(b"pairs ");
-            say_number(count as u64);
+        Code::Pairs(count) => {
+            say::text(b"pairs ");
+            say::number(count as u64);
         }
     }
 }
 
-fn same_read(a: CodeRead, b: CodeRead) -> bool {
+fn same_read(a: Code, b: Code) -> bool {
     match a {
-        CodeRead::Fault(m) => match b {
-            CodeRead::Fault(n) => m == n,
-            CodeRead::Pairs(_) => false,
+        Code::Fault(m) => match b {
+            Code::Fault(n) => m == n,
+            Code::Pairs(_) => false,
         },
-        CodeRead::Pairs(m) => match b {
-            CodeRead::Fault(_) => false,
-            CodeRead::Pairs(n) => m == n,
+        Code::Pairs(m) => match b {
+            Code::Fault(_) => false,
+            Code::Pairs(n) => m == n,
         },
     }
 }
 
 // A code's text, at 40000 Hz.
-fn code_vector(label: &[u8], text: &[u8], expected: CodeRead) {
-    let code = code::read::read_code(40000, text, 0);
-    let got = code.read;
-    say(b"code ");
-    say(label);
-    say(b": expected ");
+fn code_vector(label: &[u8], text: &[u8], expected: Code) {
+    let mut counts = [0u16; Code::MOST_COUNTS];
+    let got = code::read::read_code(40000, text, 0, &mut counts);
+    say::text(b"code ");
+    say::text(label);
+    say::text(b": expected ");
     say_read(expected);
-    say(b", got ");
+    say::text(b", got ");
     say_read(got);
-    say_verdict(same_read(expected, got));
+    say::verdict(same_read(expected, got));
 }
 
 fn short_fault(text: &[u8], number: u64) {
-    code_vector(text, text, CodeRead::Fault(number));
+    code_vector(text, text, Code::Fault(number));
 }
 
 fn short_pairs(text: &[u8], count: usize) {
-    code_vector(text, text, CodeRead::Pairs(count));
+    code_vector(text, text, Code::Pairs(count));
 }
 
 // Document 01's faults of a code, first from the left.
@@ -126,22 +112,22 @@ fn front(text: &[u8], size: usize) -> &[u8] {
 fn many_pairs() {
     let mut buf = [0u8; 2048];
     fill::fill_spelled(&mut buf);
-    code_vector(b"260 spelled", front(&buf, 1039), CodeRead::Pairs(260));
+    code_vector(b"260 spelled", front(&buf, 1039), Code::Pairs(260));
     code_vector(
         b"260 spelled and a comma",
         front(&buf, 1040),
-        CodeRead::Fault(9),
+        Code::Fault(9),
     );
-    code_vector(b"261 spelled", front(&buf, 1043), CodeRead::Fault(20));
+    code_vector(b"261 spelled", front(&buf, 1043), Code::Fault(20));
     fill::fill_lettered(&mut buf);
-    code_vector(b"260 lettered", front(&buf, 262), CodeRead::Pairs(260));
-    code_vector(b"261 lettered", front(&buf, 263), CodeRead::Fault(20));
+    code_vector(b"260 lettered", front(&buf, 262), Code::Pairs(260));
+    code_vector(b"261 lettered", front(&buf, 263), Code::Fault(20));
 }
 
 fn say_form(form: Form) {
     match form {
-        Form::Plain => say(b"plain "),
-        Form::Lettered => say(b"lettered "),
+        Form::Plain => say::text(b"plain "),
+        Form::Lettered => say::text(b"lettered "),
     }
 }
 
@@ -155,23 +141,22 @@ fn written_vector(form: Form, label: &[u8], counts: &[u64], expected: &[u8]) {
         offset: 1,
     };
     let command = Command {
-        m: 1,
-        port: 1,
+        place: Place::connector(0),
         fields,
     };
     say_form(form);
-    say(label);
-    say(b": expected ");
-    say(expected);
-    say(b", got ");
+    say::text(label);
+    say::text(b": expected ");
+    say::text(expected);
+    say::text(b", got ");
     match writer::sendir::write_sendir(&mut buf, form, command, counts) {
         Written::Refused(number) => {
-            say_number(number);
-            say_verdict(false);
+            say::number(number);
+            say::verdict(false);
         }
         Written::Line(size) => {
-            say(front(&buf, size));
-            say_verdict(check::same(front(&buf, size), expected));
+            say::text(front(&buf, size));
+            say::verdict(check::same(front(&buf, size), expected));
         }
     }
 }
@@ -214,26 +199,26 @@ fn both_forms() {
 
 fn say_smallest(refused: bool, number: u64) {
     if refused {
-        say(b"refusal ");
+        say::text(b"refusal ");
     }
-    say_number(number);
+    say::number(number);
 }
 
 // The smallest legal count for a frequency, or the number of its refusal.
 fn smallest_vector(freq: u64, refused: bool, expected: u64) {
-    say(b"smallest count at ");
-    say_number(freq);
-    say(b": expected ");
+    say::text(b"smallest count at ");
+    say::number(freq);
+    say::text(b": expected ");
     say_smallest(refused, expected);
-    say(b", got ");
+    say::text(b", got ");
     match code::limits::smallest_count(freq) {
         Smallest::Refused(number) => {
             say_smallest(true, number);
-            say_verdict(refused && number == expected);
+            say::verdict(refused && number == expected);
         }
         Smallest::Count(count) => {
             say_smallest(false, count);
-            say_verdict(!refused && count == expected);
+            say::verdict(!refused && count == expected);
         }
     }
 }
@@ -253,31 +238,25 @@ fn smallest_counts() {
     smallest_vector(500001, true, 5);
 }
 
-// A line's fault, 0 where it has none.
+// The fault of the request that a line is read as, 0 where it has none.
 fn fault_of(s: &[u8]) -> u64 {
     match request::read::read_request(s) {
-        Request::Fault(number, _, _) => number,
-        Request::GetDevices => 0,
-        Request::GetVersion => 0,
-        Request::SetIr(_, _) => 0,
-        Request::GetIr(_) => 0,
-        Request::SetState(_, _) => 0,
-        Request::GetRelay(_) => 0,
-        Request::GetContact(_) => 0,
-        Request::SendIr(_, _) => 0,
-        Request::StopIr(_) => 0,
+        Request::Fault { number, place: _ } => number,
+        Request::Fixed(_) => 0,
+        Request::Connector(_, _) => 0,
+        Request::Relay(_, _) => 0,
     }
 }
 
 fn line_vector(label: &[u8], line: &[u8], expected: u64) {
     let got = fault_of(line);
-    say(b"line ");
-    say(label);
-    say(b": expected fault ");
-    say_number(expected);
-    say(b", got ");
-    say_number(got);
-    say_verdict(expected == got);
+    say::text(b"line ");
+    say::text(label);
+    say::text(b": expected fault ");
+    say::number(expected);
+    say::text(b", got ");
+    say::number(got);
+    say::verdict(expected == got);
 }
 
 // A line of 4,096 bytes is judged on its contents, one of 4,097 is 015.
@@ -293,19 +272,20 @@ fn long_lines() {
 
 // What a fresh hub replies to a line, without its CR; nothing where the line is only taken.
 fn reply_vector(line: &[u8], expected: &[u8]) {
-    let mut store = [0u16; 1560];
-    let mut reply = [0u8; 128];
-    let answered = hub::line::line(Hub::fresh(), &mut store, 0, line, &mut reply);
+    let mut store = [0u16; Hub::COUNTS];
+    let mut reply = [0u8; Reply::ROOM];
+    let fresh = Hub::fresh();
+    let answered = fresh.line(&mut store, 0, line, &mut reply);
     let size = answered.size;
     let shown = if size == 0 { 0 } else { size - 1 };
-    say(b"hub ");
-    say(line);
-    say(b": expected <");
-    say(expected);
-    say(b">, got <");
-    say(front(&reply, shown));
-    say(b">");
-    say_verdict(check::same(front(&reply, shown), expected));
+    say::text(b"hub ");
+    say::text(line);
+    say::text(b": expected <");
+    say::text(expected);
+    say::text(b">, got <");
+    say::text(front(&reply, shown));
+    say::text(b">");
+    say::verdict(check::same(front(&reply, shown), expected));
 }
 
 // Repeats and offsets at their limits: only an offset beyond the code waits for the code.
@@ -326,21 +306,21 @@ fn limits() {
 
 // A wait of a fresh hub: its refusal, 0 where it is taken.
 fn wait_vector(micros: u64, expected: u64) {
-    let waited = hub::wait::wait(Hub::fresh(), Micros(micros));
-    let decided = waited.decided;
-    let answer = decided.answer;
+    let fresh = Hub::fresh();
+    let waited = fresh.wait(Micros(micros));
+    let answer = waited.answer;
     let got = match answer {
         Answer::Refused(number) => number,
         Answer::Taken => 0,
-        Answer::Reply(_, _) => 0,
+        Answer::Reply { reply: _, also: _ } => 0,
     };
-    say(b"wait ");
-    say_number(micros);
-    say(b": expected refusal ");
-    say_number(expected);
-    say(b", got ");
-    say_number(got);
-    say_verdict(expected == got);
+    say::text(b"wait ");
+    say::number(micros);
+    say::text(b": expected refusal ");
+    say::number(expected);
+    say::text(b", got ");
+    say::number(got);
+    say::verdict(expected == got);
 }
 
 fn main() {

@@ -1,32 +1,35 @@
+-- `bench::fed` meets its contract.
 use Prim.Native.Nat.{_-_}
 use mathlib.Core.Path.{_≡_, refl}
 use native.Mathlib.Omega.{arith}
 use lib.ListN.{length}
 use Rattle.hub.specs.Record.{SoundHub}
+use borrow.Author.Needs.{needs}
 use Rattle.bench.proofs.fed.Statement.{statement}
 use Rattle.bench.proofs.fed.Tie as tie
-use borrow.Author.Needs.{needs}
 
+-- the hub stays sound, and the lent memory as long as it was
 abbrev Inv-loop : tie.InvT-loop
-Inv-loop store₀ line₀ out₀ block next₀ i₀ store line out next i = SoundHub (next .hub) × (length line ≡ length line₀) × (length out ≡ length out₀)
+Inv-loop store₀ line₀ out₀ block hub₀ begun₀ used₀ i₀ store line out hub begun used i =
+    SoundHub hub × (length line ≡ length line₀) × (length out ≡ length out₀)
 
 abbrev μ-loop : tie.MeasureT-loop
-μ-loop store₀ line₀ out₀ block next₀ i₀ store line out next i = length block - i
+μ-loop store₀ line₀ out₀ block hub₀ begun₀ used₀ i₀ store line out hub begun used i = length block - i
 
 loop-holds : tie.Need-loop-holds Inv-loop μ-loop
-loop-holds c = (c .before .before .before .pre, refl, refl)
+loop-holds c = (c .before .before .before .before .before .pre, refl, refl)
 
 line-end-requires : tie.Need-line-end-requires Inv-loop μ-loop
 line-end-requires c κs = search needs
 
-sub-taken : tie.Need-sub-taken Inv-loop μ-loop
-sub-taken c = search needs
+sub-part : tie.Need-sub-part Inv-loop μ-loop
+sub-part c = search needs
 
-part-taken-start : tie.Need-part-taken-start Inv-loop μ-loop
-part-taken-start c = search needs
+part-part-start : tie.Need-part-part-start Inv-loop μ-loop
+part-part-start c = search needs
 
-part-taken-end : tie.Need-part-taken-end Inv-loop μ-loop
-part-taken-end c = search needs
+part-part-end : tie.Need-part-part-end Inv-loop μ-loop
+part-part-end c = search needs
 
 taken-requires : tie.Need-taken-requires Inv-loop μ-loop
 taken-requires c κs = search needs
@@ -38,28 +41,191 @@ same-length-2 : tie.Need-same-length-2 Inv-loop μ-loop
 same-length-2 c = search needs
 
 returns : tie.Need-returns Inv-loop μ-loop
-returns c = search needs
+returns c = c .before .before .before .before .before .before .before .before .loop .inv .0
 
-sub-ended : tie.Need-sub-ended Inv-loop μ-loop
-sub-ended c = search needs
-
-part-ended-start : tie.Need-part-ended-start Inv-loop μ-loop
-part-ended-start c = search needs
-
-part-ended-end : tie.Need-part-ended-end Inv-loop μ-loop
-part-ended-end c = search needs
+add-next : tie.Need-add-next Inv-loop μ-loop
+add-next c = search needs
 
 ended-requires : tie.Need-ended-requires Inv-loop μ-loop
 ended-requires c κs = search needs
 
-add-i : tie.Need-add-i Inv-loop μ-loop
-add-i c = search needs
+line-of-requires : tie.Need-line-of-requires Inv-loop μ-loop
+line-of-requires c κs = search needs
+
+with-room-requires : tie.Need-with-room-requires Inv-loop μ-loop
+with-room-requires c κs = search needs
+
+nothing-requires : tie.Need-nothing-requires Inv-loop μ-loop
+nothing-requires c κs = search needs
+
+input-of-requires : tie.Need-input-of-requires Inv-loop μ-loop
+input-of-requires c κs = search needs
+
+enum-told : tie.Need-enum-told Inv-loop μ-loop
+enum-told c = search needs
+
+put-refusal-requires : tie.Need-put-refusal-requires Inv-loop μ-loop
+put-refusal-requires c κs = search needs
 
 loop-less : tie.Need-loop-less Inv-loop μ-loop
-loop-less c = search needs
+loop-less c =
+    let answer = c .before .before in
+    let whole = answer .before .before .before .before .before .before .before .before .before .before .before .before in
+    let test = whole .before .before in
+    omega (arith, test .if1 .left, test .before .before .line-end .ensures, test .before .before .before .loop-test .taken)
 
 loop-again : tie.Need-loop-again Inv-loop μ-loop
-loop-again c = (c .before .before .before .before .ended .ensures, omega arith, omega arith)
+loop-again c =
+    let answer = c .before .before in
+    let whole = answer .before .before .before .before .before .before .before .before .before .before .before .before in
+    let start = whole .before .before .before .before .before .before in
+    (start .loop .inv .0, omega (arith, start .loop .inv, whole .ended .kept), omega (arith, start .loop .inv, answer .put-refusal .kept))
+
+enum-known-connection : tie.Need-enum-known-connection Inv-loop μ-loop
+enum-known-connection c = search needs
+
+behind-requires : tie.Need-behind-requires Inv-loop μ-loop
+behind-requires c κs = search needs
+
+line-requires : tie.Need-line-requires Inv-loop μ-loop
+line-requires c κs =
+    let whole = c .before .before .before .before .before .before .before .before .before .before .before .before .before .before in
+    whole .before .before .before .before .before .before .loop .inv .0
+
+enum-told-2 : tie.Need-enum-told-2 Inv-loop μ-loop
+enum-told-2 c = search needs
+
+loop-less-2 : tie.Need-loop-less-2 Inv-loop μ-loop
+loop-less-2 c =
+    let answer = c .before .before .before .before in
+    let whole = answer .before .before .before .before .before .before .before .before .before .before .before .before .before .before .before in
+    let test = whole .before .before in
+    omega (arith, test .if1 .left, test .before .before .line-end .ensures, test .before .before .before .loop-test .taken)
+
+loop-again-2 : tie.Need-loop-again-2 Inv-loop μ-loop
+loop-again-2 c =
+    let answer = c .before .before .before .before in
+    let whole = answer .before .before .before .before .before .before .before .before .before .before .before .before .before .before .before in
+    let start = whole .before .before .before .before .before .before in
+    (start .loop .inv .0, omega (arith, start .loop .inv, whole .ended .kept), omega (arith, start .loop .inv, answer .line3 .kept))
+
+enum-known-change : tie.Need-enum-known-change Inv-loop μ-loop
+enum-known-change c = search needs
+
+mul-connector : tie.Need-mul-connector Inv-loop μ-loop
+mul-connector c = omega (arith, rw (c .before .change .given .1) at (c .before .before .before .before .before .line3 .ensures .0))
+
+element-set-from-connector : tie.Need-element-set-from-connector Inv-loop μ-loop
+element-set-from-connector c = omega (arith, rw (c .before .change .given .1) at (c .before .before .before .before .before .line3 .ensures .0))
+
+loop-less-3 : tie.Need-loop-less-3 Inv-loop μ-loop
+loop-less-3 c =
+    let answer = c .before .before .before .before .before in
+    let whole = answer .before .before .before .before .before .before .before .before .before .before .before .before .before .before .before in
+    let test = whole .before .before in
+    omega (arith, test .if1 .left, test .before .before .line-end .ensures, test .before .before .before .loop-test .taken)
+
+loop-again-3 : tie.Need-loop-again-3 Inv-loop μ-loop
+loop-again-3 c =
+    let answer = c .before .before .before .before .before in
+    let whole = answer .before .before .before .before .before .before .before .before .before .before .before .before .before .before .before in
+    let start = whole .before .before .before .before .before .before in (
+      rw (c .before .change .given .1) at (answer .line3 .ensures .1),
+      omega (arith, start .loop .inv, whole .ended .kept),
+      omega (arith, start .loop .inv, answer .line3 .kept),
+    )
+
+enum-known-change-2 : tie.Need-enum-known-change-2 Inv-loop μ-loop
+enum-known-change-2 c = search needs
+
+mul-hub : tie.Need-mul-hub Inv-loop μ-loop
+mul-hub c = omega (arith, rw (c .before .change2 .given .1) at (c .before .before .before .before .before .line3 .ensures .0))
+
+element-write-hub : tie.Need-element-write-hub Inv-loop μ-loop
+element-write-hub c = omega (arith, rw (c .before .change2 .given .1) at (c .before .before .before .before .before .line3 .ensures .0))
+
+loop-less-4 : tie.Need-loop-less-4 Inv-loop μ-loop
+loop-less-4 c =
+    let answer = c .before .before .before .before .before in
+    let whole = answer .before .before .before .before .before .before .before .before .before .before .before .before .before .before .before in
+    let test = whole .before .before in
+    omega (arith, test .if1 .left, test .before .before .line-end .ensures, test .before .before .before .loop-test .taken)
+
+loop-again-4 : tie.Need-loop-again-4 Inv-loop μ-loop
+loop-again-4 c =
+    let answer = c .before .before .before .before .before in
+    let whole = answer .before .before .before .before .before .before .before .before .before .before .before .before .before .before .before in
+    let start = whole .before .before .before .before .before .before in (
+      rw (c .before .change2 .given .1) at (answer .line3 .ensures .1),
+      omega (arith, start .loop .inv, whole .ended .kept),
+      omega (arith, start .loop .inv, answer .line3 .kept),
+    )
+
+enum-known-port : tie.Need-enum-known-port Inv-loop μ-loop
+enum-known-port c = search needs
+
+reading-requires : tie.Need-reading-requires Inv-loop μ-loop
+reading-requires c κs =
+    let whole = c .before .before .before .before .before .before .before .before .before .before .before .before in
+    whole .before .before .before .before .before .before .loop .inv .0
+
+loop-less-5 : tie.Need-loop-less-5 Inv-loop μ-loop
+loop-less-5 c =
+    let answer = c .before .before .before in
+    let whole = answer .before .before .before .before .before .before .before .before .before .before .before .before .before in
+    let test = whole .before .before in
+    omega (arith, test .if1 .left, test .before .before .line-end .ensures, test .before .before .before .loop-test .taken)
+
+loop-again-5 : tie.Need-loop-again-5 Inv-loop μ-loop
+loop-again-5 c =
+    let answer = c .before .before .before in
+    let whole = answer .before .before .before .before .before .before .before .before .before .before .before .before .before in
+    let start = whole .before .before .before .before .before .before in
+    (answer .reading .ensures, omega (arith, start .loop .inv, whole .ended .kept), omega (arith, start .loop .inv, answer .reading .kept))
+
+enum-known-connection-2 : tie.Need-enum-known-connection-2 Inv-loop μ-loop
+enum-known-connection-2 c = search needs
+
+closing-requires : tie.Need-closing-requires Inv-loop μ-loop
+closing-requires c κs =
+    let whole = c .before .before .before .before .before .before .before .before .before .before .before .before in
+    whole .before .before .before .before .before .before .loop .inv .0
+
+loop-less-6 : tie.Need-loop-less-6 Inv-loop μ-loop
+loop-less-6 c =
+    let answer = c .before .before .before in
+    let whole = answer .before .before .before .before .before .before .before .before .before .before .before .before .before in
+    let test = whole .before .before in
+    omega (arith, test .if1 .left, test .before .before .line-end .ensures, test .before .before .before .loop-test .taken)
+
+loop-again-6 : tie.Need-loop-again-6 Inv-loop μ-loop
+loop-again-6 c =
+    let answer = c .before .before .before in
+    let whole = answer .before .before .before .before .before .before .before .before .before .before .before .before .before in
+    let start = whole .before .before .before .before .before .before in
+    (answer .closing .ensures, omega (arith, start .loop .inv, whole .ended .kept), omega (arith, start .loop .inv, answer .closing .kept))
+
+enum-known-micros : tie.Need-enum-known-micros Inv-loop μ-loop
+enum-known-micros c = search needs
+
+waiting-requires : tie.Need-waiting-requires Inv-loop μ-loop
+waiting-requires c κs =
+    let whole = c .before .before .before .before .before .before .before .before .before .before .before .before in
+    whole .before .before .before .before .before .before .loop .inv .0
+
+loop-less-7 : tie.Need-loop-less-7 Inv-loop μ-loop
+loop-less-7 c =
+    let answer = c .before .before .before in
+    let whole = answer .before .before .before .before .before .before .before .before .before .before .before .before .before in
+    let test = whole .before .before in
+    omega (arith, test .if1 .left, test .before .before .line-end .ensures, test .before .before .before .loop-test .taken)
+
+loop-again-7 : tie.Need-loop-again-7 Inv-loop μ-loop
+loop-again-7 c =
+    let answer = c .before .before .before in
+    let whole = answer .before .before .before .before .before .before .before .before .before .before .before .before .before in
+    let start = whole .before .before .before .before .before .before in
+    (answer .waiting .ensures, omega (arith, start .loop .inv, whole .ended .kept), omega (arith, start .loop .inv, answer .waiting .kept))
 
 same-length-3 : tie.Need-same-length-3 Inv-loop μ-loop
 same-length-3 c = search needs
@@ -68,7 +234,7 @@ same-length-4 : tie.Need-same-length-4 Inv-loop μ-loop
 same-length-4 c = search needs
 
 returns-2 : tie.Need-returns-2 Inv-loop μ-loop
-returns-2 c = search needs
+returns-2 c = c .before .loop .inv .0
 
 pub fed-spec : {M : Type 1} → statement M
 fed-spec =
@@ -78,20 +244,51 @@ fed-spec =
     μ-loop
     loop-holds
     line-end-requires
-    sub-taken
-    part-taken-start
-    part-taken-end
+    sub-part
+    part-part-start
+    part-part-end
     taken-requires
     same-length
     same-length-2
     returns
-    sub-ended
-    part-ended-start
-    part-ended-end
+    add-next
     ended-requires
-    add-i
+    line-of-requires
+    with-room-requires
+    nothing-requires
+    input-of-requires
+    enum-told
+    put-refusal-requires
     loop-less
     loop-again
+    enum-known-connection
+    behind-requires
+    line-requires
+    enum-told-2
+    loop-less-2
+    loop-again-2
+    enum-known-change
+    mul-connector
+    element-set-from-connector
+    loop-less-3
+    loop-again-3
+    enum-known-change-2
+    mul-hub
+    element-write-hub
+    loop-less-4
+    loop-again-4
+    enum-known-port
+    reading-requires
+    loop-less-5
+    loop-again-5
+    enum-known-connection-2
+    closing-requires
+    loop-less-6
+    loop-again-6
+    enum-known-micros
+    waiting-requires
+    loop-less-7
+    loop-again-7
     same-length-3
     same-length-4
     returns-2)

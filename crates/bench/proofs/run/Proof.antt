@@ -1,3 +1,4 @@
+-- `bench::run` meets its contract.
 use mathlib.Core.Path.{_≡_, refl}
 use native.Mathlib.Omega.{arith}
 use lib.ListN.{length}
@@ -6,8 +7,10 @@ use Rattle.bench.proofs.run.Statement.{statement}
 use Rattle.bench.proofs.run.Tie as tie
 use borrow.Author.Needs.{needs}
 
+-- the hub is sound, and the memory that is lent as long as it was made
 abbrev Inv-loop : tie.InvT-loop
-Inv-loop store₀ line₀ out₀ block₀ state₀ turns₀ store line out block state turns = SoundHub (state .hub) × (length line ≡ 4108) × (length out ≡ 65536) × (length block ≡ 65536)
+Inv-loop store₀ line₀ out₀ block₀ state₀ turns₀ store line out block state turns =
+    SoundHub (state .hub) × (length line ≡ 4108) × (length out ≡ 65536) × (length block ≡ 65536)
 
 abbrev μ-loop : tie.MeasureT-loop
 μ-loop store₀ line₀ out₀ block₀ state₀ turns₀ store line out block state turns = turns
@@ -58,10 +61,14 @@ flushed-requires : tie.Need-flushed-requires Inv-loop μ-loop
 flushed-requires c κs = search needs
 
 sub-turns : tie.Need-sub-turns Inv-loop μ-loop
-sub-turns c = omega (arith, c .before .before .before .before .before .before .before .before .before .before .before .before .before .before .before .before .loop-test .taken)
+sub-turns c =
+    let fed = c .before .before .before .before in
+    omega (arith, fed .before .before .before .before .before .before .before .before .before .before .before .before .loop-test .taken)
 
 loop-less : tie.Need-loop-less Inv-loop μ-loop
-loop-less c = omega (arith, c .before .before .before .before .before .before .before .before .before .before .before .before .before .before .before .before .loop-test .taken)
+loop-less c =
+    let fed = c .before .before .before .before in
+    omega (arith, fed .before .before .before .before .before .before .before .before .before .before .before .before .loop-test .taken)
 
 loop-again : tie.Need-loop-again Inv-loop μ-loop
 loop-again c = (c .flushed .ensures, omega arith, omega arith, omega arith)

@@ -1,3 +1,4 @@
+-- `vectors::front` meets its contract.
 use mathlib.Core.Path.{sym}
 use lib.Seq.{length-take-le}
 use denote.Ref.{now}

@@ -1,3 +1,4 @@
+-- `vectors::reply_vector` meets its contract.
 use Rattle.hub.proofs.Keeps.{fresh-sound}
 use borrow.Author.Needs.{needs}
 use Rattle.vectors.proofs.reply_vector.Statement.{statement}
@@ -15,29 +16,29 @@ line-requires c κs = rw (c .before .before .fresh .ensures) fresh-sound
 sub-shown : tie.Need-sub-shown
 sub-shown c = search needs
 
-slice-aggregate-say : tie.Need-slice-aggregate-say
-slice-aggregate-say c = search needs
+slice-aggregate-text : tie.Need-slice-aggregate-text
+slice-aggregate-text c = search needs
 
-say-requires : tie.Need-say-requires
-say-requires c κs = search needs
+text-requires : tie.Need-text-requires
+text-requires c κs = search needs
 
-say-requires-2 : tie.Need-say-requires-2
-say-requires-2 c κs = search needs
+text-requires-2 : tie.Need-text-requires-2
+text-requires-2 c κs = search needs
 
-slice-aggregate-say-2 : tie.Need-slice-aggregate-say-2
-slice-aggregate-say-2 c = search needs
+slice-aggregate-text-2 : tie.Need-slice-aggregate-text-2
+slice-aggregate-text-2 c = search needs
 
-say-requires-3 : tie.Need-say-requires-3
-say-requires-3 c κs = search needs
+text-requires-3 : tie.Need-text-requires-3
+text-requires-3 c κs = search needs
 
-say-requires-4 : tie.Need-say-requires-4
-say-requires-4 c κs = search needs
+text-requires-4 : tie.Need-text-requires-4
+text-requires-4 c κs = search needs
 
-slice-aggregate-say-3 : tie.Need-slice-aggregate-say-3
-slice-aggregate-say-3 c = search needs
+slice-aggregate-text-3 : tie.Need-slice-aggregate-text-3
+slice-aggregate-text-3 c = search needs
 
-say-requires-5 : tie.Need-say-requires-5
-say-requires-5 c κs = search needs
+text-requires-5 : tie.Need-text-requires-5
+text-requires-5 c κs = search needs
 
 slice-aggregate-front : tie.Need-slice-aggregate-front
 slice-aggregate-front c = search needs
@@ -45,14 +46,14 @@ slice-aggregate-front c = search needs
 front-requires : tie.Need-front-requires
 front-requires c κs = search needs
 
-say-requires-6 : tie.Need-say-requires-6
-say-requires-6 c κs = search needs
+text-requires-6 : tie.Need-text-requires-6
+text-requires-6 c κs = search needs
 
-slice-aggregate-say-4 : tie.Need-slice-aggregate-say-4
-slice-aggregate-say-4 c = search needs
+slice-aggregate-text-4 : tie.Need-slice-aggregate-text-4
+slice-aggregate-text-4 c = search needs
 
-say-requires-7 : tie.Need-say-requires-7
-say-requires-7 c κs = search needs
+text-requires-7 : tie.Need-text-requires-7
+text-requires-7 c κs = search needs
 
 slice-aggregate-front-2 : tie.Need-slice-aggregate-front-2
 slice-aggregate-front-2 c = search needs
@@ -63,8 +64,8 @@ front-requires-2 c κs = search needs
 same-requires : tie.Need-same-requires
 same-requires c κs = search needs
 
-say-verdict-requires : tie.Need-say-verdict-requires
-say-verdict-requires c κs = search needs
+verdict-requires : tie.Need-verdict-requires
+verdict-requires c κs = search needs
 
 returns : tie.Need-returns
 returns c = search needs
@@ -77,21 +78,21 @@ reply-vector-spec =
     slice-aggregate-line
     line-requires
     sub-shown
-    slice-aggregate-say
-    say-requires
-    say-requires-2
-    slice-aggregate-say-2
-    say-requires-3
-    say-requires-4
-    slice-aggregate-say-3
-    say-requires-5
+    slice-aggregate-text
+    text-requires
+    text-requires-2
+    slice-aggregate-text-2
+    text-requires-3
+    text-requires-4
+    slice-aggregate-text-3
+    text-requires-5
     slice-aggregate-front
     front-requires
-    say-requires-6
-    slice-aggregate-say-4
-    say-requires-7
+    text-requires-6
+    slice-aggregate-text-4
+    text-requires-7
     slice-aggregate-front-2
     front-requires-2
     same-requires
-    say-verdict-requires
+    verdict-requires
     returns)

@@ -1,3 +1,4 @@
+-- `vectors::wait_vector` meets its contract.
 use Rattle.hub.proofs.Keeps.{fresh-sound}
 use borrow.Author.Needs.{needs}
 use Rattle.vectors.proofs.wait_vector.Statement.{statement}
@@ -18,35 +19,35 @@ enum-told c = search needs
 enum-told-2 : tie.Need-enum-told-2
 enum-told-2 c = search needs
 
-slice-aggregate-say : tie.Need-slice-aggregate-say
-slice-aggregate-say c = search needs
+slice-aggregate-text : tie.Need-slice-aggregate-text
+slice-aggregate-text c = search needs
 
-say-requires : tie.Need-say-requires
-say-requires c κs = search needs
+text-requires : tie.Need-text-requires
+text-requires c κs = search needs
 
-say-number-requires : tie.Need-say-number-requires
-say-number-requires c κs = search needs
+number-requires : tie.Need-number-requires
+number-requires c κs = search needs
 
-slice-aggregate-say-2 : tie.Need-slice-aggregate-say-2
-slice-aggregate-say-2 c = search needs
+slice-aggregate-text-2 : tie.Need-slice-aggregate-text-2
+slice-aggregate-text-2 c = search needs
 
-say-requires-2 : tie.Need-say-requires-2
-say-requires-2 c κs = search needs
+text-requires-2 : tie.Need-text-requires-2
+text-requires-2 c κs = search needs
 
-say-number-requires-2 : tie.Need-say-number-requires-2
-say-number-requires-2 c κs = search needs
+number-requires-2 : tie.Need-number-requires-2
+number-requires-2 c κs = search needs
 
-slice-aggregate-say-3 : tie.Need-slice-aggregate-say-3
-slice-aggregate-say-3 c = search needs
+slice-aggregate-text-3 : tie.Need-slice-aggregate-text-3
+slice-aggregate-text-3 c = search needs
 
-say-requires-3 : tie.Need-say-requires-3
-say-requires-3 c κs = search needs
+text-requires-3 : tie.Need-text-requires-3
+text-requires-3 c κs = search needs
 
-say-number-requires-3 : tie.Need-say-number-requires-3
-say-number-requires-3 c κs = search needs
+number-requires-3 : tie.Need-number-requires-3
+number-requires-3 c κs = search needs
 
-say-verdict-requires : tie.Need-say-verdict-requires
-say-verdict-requires c κs = search needs
+verdict-requires : tie.Need-verdict-requires
+verdict-requires c κs = search needs
 
 returns : tie.Need-returns
 returns c = search needs
@@ -60,14 +61,14 @@ wait-vector-spec =
     enum-known-answer
     enum-told
     enum-told-2
-    slice-aggregate-say
-    say-requires
-    say-number-requires
-    slice-aggregate-say-2
-    say-requires-2
-    say-number-requires-2
-    slice-aggregate-say-3
-    say-requires-3
-    say-number-requires-3
-    say-verdict-requires
+    slice-aggregate-text
+    text-requires
+    number-requires
+    slice-aggregate-text-2
+    text-requires-2
+    number-requires-2
+    slice-aggregate-text-3
+    text-requires-3
+    number-requires-3
+    verdict-requires
     returns)

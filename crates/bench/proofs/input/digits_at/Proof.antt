@@ -1,3 +1,4 @@
+-- `bench::input::digits_at` meets its contract.
 use Prim.Native.Nat.{_-_}
 use native.Mathlib.Omega.{arith}
 use lib.ListN.{length}

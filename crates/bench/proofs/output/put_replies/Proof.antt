@@ -1,3 +1,4 @@
+-- `bench::output::put_replies` meets its contract.
 use Prim.Native.Nat.{_-_}
 use mathlib.Core.Path.{_≡_, refl, _∙_}
 use lib.ListN.{length}

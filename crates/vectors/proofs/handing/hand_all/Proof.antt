@@ -1,3 +1,4 @@
+-- `vectors::handing::hand_all` meets its contract.
 use Prim.Native.Nat.{_-_}
 use native.Mathlib.Omega.{arith}
 use Rattle.reader.proofs.Pieces.{handed-more}

@@ -1,9 +1,10 @@
+-- `bench::scan::front` meets its contract.
 use mathlib.Core.Path.{sym}
 use lib.Seq.{length-take-le}
 use denote.Ref.{now}
 use borrow.Author.Needs.{needs}
-use Rattle.bench.proofs.front.Statement.{statement}
-use Rattle.bench.proofs.front.Tie as tie
+use Rattle.bench.proofs.scan.front.Statement.{statement}
+use Rattle.bench.proofs.scan.front.Tie as tie
 
 slice-aggregate-result : tie.Need-slice-aggregate-result
 slice-aggregate-result c = sym (length-take-le (c .before .before .args .size) (now (c .before .before .args .text)) (c .before .if1 .taken))

@@ -1,0 +1,19 @@
+// What is printed.
+use libc::STDOUT_FILENO;
+
+pub fn text(bytes: &[u8]) {
+    io::write_all(STDOUT_FILENO, bytes);
+}
+
+pub fn number(n: u64) {
+    io::print_decimal(STDOUT_FILENO, n);
+}
+
+// Whether what was got is what was expected; it ends the line.
+pub fn verdict(ok: bool) {
+    if ok {
+        text(b": ok\n");
+    } else {
+        text(b": FAILS\n");
+    }
+}

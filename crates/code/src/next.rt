@@ -2,7 +2,7 @@
 use crate::Code;
 use text::number::Number;
 ghost use mathlib.Core.Path.{_≡_};
-ghost use Prim.Native.Nat.{_≤_};
+ghost use Prim.Native.Nat.{_-_};
 ghost use Rattle.code.specs.Next.{isLetter, countAt, offAt, afterOn, isFull, spelledAt, letterAt, begunAt, atEnd, nextPair};
 
 // A count and the place behind it, or none within the limits.
@@ -103,15 +103,24 @@ fn spelled_at(freq: u64, pairs: usize, s: &[u8], at: usize) -> Next
     }
 }
 
+// The number of a letter, 0 for A; a byte before A counts as A.
+fn letter_number(b: u8) -> usize
+    ensures { λ r. ⌜ r ≡ b - 65 ⌝ }
+{
+    if b < b'A' {
+        return 0;
+    }
+    (b - b'A') as usize
+}
+
 // A pair that the letter b begins, behind so many, where so many letters have a pair.
 pub fn letter_at(pairs: usize, letters: usize, b: u8, next: usize) -> Next
-    requires { ⌜ 65 ≤ b ⌝ }
     ensures { λ r. ⌜ r ≡ letterAt pairs letters b next ⌝ }
 {
     if is_full(pairs) {
         return Next::Fault(20);
     }
-    let i = (b - b'A') as usize;
+    let i = letter_number(b);
     if i < letters {
         Next::Letter(i, next)
     } else {

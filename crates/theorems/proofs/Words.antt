@@ -13,6 +13,7 @@ use Rattle.laws.proofs.Lists.{same-is, same-self}
 use Rattle.words.specs.Decimal.{decimal}
 use Rattle.words.specs.Digits.{isDigit, worth}
 use Rattle.words.specs.Pairs.{samePair}
+use Rattle.words.specs.Places.{ports, portsOf}
 use Rattle.words.specs.declared.Pair.{Pair}
 use Rattle.text.proofs.Decimals.{decimal-value}
 use Rattle.text.proofs.Reading.{digit-range}
@@ -24,6 +25,10 @@ use Rattle.theorems.proofs.Deeds.{did}
 -- two words are the same exactly when they are equal
 pub same-means : (a b : List ℕ) → (same a b ≡ true) ↔ (a ≡ b)
 same-means a b = (same-is a b, λ e. rw e (same-self b))
+
+-- "module 1 has infrared connectors 1 to 3, module 2 has relays 1 to 3"
+pub ports-are : (ports ≡ 1 ∷ 2 ∷ 3 ∷ []) × (portsOf 1 ≡ 3) × (portsOf 2 ≡ 3)
+ports-are = (refl, refl, refl)
 
 -- a connector is in SENSOR exactly when that is its word
 pub in-sensor-means : (p : ℕ) (log : List Deed) → (inSensor p log ≡ true) ↔ (modeOf p log ≡ bytes "SENSOR")

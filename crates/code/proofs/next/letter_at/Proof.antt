@@ -13,19 +13,22 @@ returns : tie.Need-returns
 unfolding letterAt
 returns c = rw (sym (c .before .is-full .ensures) ∙ c .if1 .taken)
 
-sub-i : tie.Need-sub-i
-sub-i c = search needs
-
-cast-i : tie.Need-cast-i
-cast-i c = search needs
+letter-number-requires : tie.Need-letter-number-requires
+letter-number-requires c κs = search needs
 
 returns-2 : tie.Need-returns-2
 unfolding letterAt
-returns-2 c = rw (sym (c .before .before .is-full .ensures) ∙ c .before .if1 .left, lt-ltb _ _ (c .if2 .taken))
+returns-2 c =
+    let numbered = c .before in
+    let room = numbered .before in
+    rw (sym (room .before .is-full .ensures) ∙ room .if1 .left, ← numbered .letter-number .ensures, lt-ltb _ _ (c .if2 .taken))
 
 returns-3 : tie.Need-returns-3
 unfolding letterAt
-returns-3 c = rw (sym (c .before .before .is-full .ensures) ∙ c .before .if1 .left, le-ltb _ _ (c .if2 .left))
+returns-3 c =
+    let numbered = c .before in
+    let room = numbered .before in
+    rw (sym (room .before .is-full .ensures) ∙ room .if1 .left, ← numbered .letter-number .ensures, le-ltb _ _ (c .if2 .left))
 
 pub letter-at-spec : {M : Type 1} → statement M
-letter-at-spec = tie.close (tie.spec is-full-requires returns sub-i cast-i returns-2 returns-3)
+letter-at-spec = tie.close (tie.spec is-full-requires returns letter-number-requires returns-2 returns-3)

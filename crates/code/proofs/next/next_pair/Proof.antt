@@ -3,7 +3,6 @@ use mathlib.Core.Path.{sym, _∙_}
 use mathlib.Core.Logic.{⊎-elim}
 use borrow.Author.Tests.{le-leb, lt-leb, eq-eqb, ne-eqb}
 use Rattle.code.specs.Next.{nextPair}
-use Rattle.code.proofs.Nexts.{letter-low}
 use borrow.Author.Needs.{needs}
 use Rattle.code.proofs.next.next_pair.Statement.{statement}
 use Rattle.code.proofs.next.next_pair.Tie as tie
@@ -25,7 +24,7 @@ add-letter-at : tie.Need-add-letter-at
 add-letter-at c = search needs
 
 letter-at-requires : tie.Need-letter-at-requires
-letter-at-requires c κs = letter-low (sym (c .before .is-letter .ensures) ∙ c .if2 .taken)
+letter-at-requires c κs = search needs
 
 returns-2 : tie.Need-returns-2
 unfolding nextPair

@@ -12,7 +12,7 @@ use Rattle.code.specs.declared.next.After.the-variants.{Lettering}
 use Rattle.code.specs.Letters.{held}
 use Rattle.code.specs.Next.{nextPair}
 use Rattle.code.specs.Follows.{Follows}
-use Rattle.code.proofs.Nexts.{Sound, letter-low}
+use Rattle.code.proofs.Nexts.{Sound}
 use Rattle.code.proofs.Follows.{follows-none, follows-then, follows-letter, next-found, letter-next}
 use borrow.Author.Needs.{needs}
 use Rattle.code.proofs.read.letter_run.Statement.{statement}
@@ -54,7 +54,7 @@ add-letter-at : tie.Need-add-letter-at Inv-loop μ-loop
 add-letter-at c = search needs
 
 letter-at-requires : tie.Need-letter-at-requires Inv-loop μ-loop
-letter-at-requires c κs = letter-low (sym (c .before .is-letter .ensures) ∙ not-false _ (c .if1 .left))
+letter-at-requires c κs = search needs
 
 enum-known-j : tie.Need-enum-known-j Inv-loop μ-loop
 enum-known-j c = search needs

@@ -35,7 +35,7 @@ fn put_who(out: &mut [u8], used: usize, who: Owner) -> usize {
             put_byte(out, o, b' ')
         }
         Owner::Connection(number) => {
-            let o = put_decimal(out, used, number);
+            let o = put_decimal(out, used, number as u64);
             put_byte(out, o, b' ')
         }
     }
@@ -69,7 +69,7 @@ pub fn put_replies(out: &mut [u8], used: usize, who: Owner, text: &[u8], size: u
 }
 
 // The line of a reply for a connection of one digit; the reply's bytes, so many with the CR, stand behind room for that digit and a space.
-pub fn put_line(out: &mut [u8], used: usize, connection: u64, size: usize) -> usize {
+pub fn put_line(out: &mut [u8], used: usize, connection: u8, size: usize) -> usize {
     if size == 0 {
         return used;
     }
@@ -83,7 +83,7 @@ pub fn put_line(out: &mut [u8], used: usize, connection: u64, size: usize) -> us
         return used;
     }
     let end = used + 2 + size;
-    out[used] = b'0' + (connection % 10) as u8;
+    out[used] = b'0' + connection % 8;
     out[used + 1] = b' ';
     out[end - 1] = b'\n';
     end

@@ -39,7 +39,7 @@ fn is_one_line(reply: Reply) -> bool {
 }
 
 // A reply of several lines, or one that is for an owner too: its bytes are kept aside, and each line is put for each of them.
-fn put_apart(out: &mut [u8], used: usize, connection: u64, also: Owner, size: usize) -> usize {
+fn put_apart(out: &mut [u8], used: usize, connection: u8, also: Owner, size: usize) -> usize {
     let from = scan::within(out, used, 2);
     let mut reply = [0u8; Reply::ROOM];
     let mut i: usize = 0;
@@ -61,7 +61,7 @@ fn put_apart(out: &mut [u8], used: usize, connection: u64, also: Owner, size: us
 fn put_reply(
     out: &mut [u8],
     used: usize,
-    connection: u64,
+    connection: u8,
     reply: Reply,
     also: Owner,
     size: usize,
@@ -78,12 +78,14 @@ fn put_reply(
     }
 }
 
-// The answer to a line.
+// The answer to a line. A reply is for a connection of 0 to 7, whose number is its own remainder by 8.
 fn put_answer(out: &mut [u8], used: usize, connection: u64, answer: Answer, size: usize) -> usize {
     match answer {
         Answer::Refused(number) => output::put_refusal(out, used, number),
         Answer::Taken => used,
-        Answer::Reply { reply, also } => put_reply(out, used, connection, reply, also, size),
+        Answer::Reply { reply, also } => {
+            put_reply(out, used, (connection % 8) as u8, reply, also, size)
+        }
     }
 }
 

@@ -1,4 +1,4 @@
-// A command as a caller gives it: numbers of any size, counts in a slice of any length.
+// A command as a caller gives it: fields of any values, counts of any values in a slice of any length.
 use crate::read::CommandRead;
 use code::Code;
 use request::Place;
@@ -33,22 +33,22 @@ fn place_within(place: Place) -> bool
 fn given_within(f: Fields) -> bool
     ensures { λ r. ⌜ r ≡ givenWithin f ⌝ }
 {
-    if Code::MOST_ID < f.id {
+    if Code::MOST_ID < f.id as u64 {
         return false;
     }
-    if f.freq < Code::LEAST_FREQ {
+    if (f.freq as u64) < Code::LEAST_FREQ {
         return false;
     }
-    if Code::MOST_FREQ < f.freq {
+    if Code::MOST_FREQ < f.freq as u64 {
         return false;
     }
     if f.repeat < 1 {
         return false;
     }
-    if Code::MOST_REPEAT < f.repeat {
+    if Code::MOST_REPEAT < f.repeat as u64 {
         return false;
     }
-    if Code::MOST_OFFSET < f.offset {
+    if Code::MOST_OFFSET < f.offset as u64 {
         return false;
     }
     f.offset % 2 != 0
@@ -118,11 +118,11 @@ pub fn command_given(
     if !given_within(f) {
         return CommandRead::Fault(106);
     }
-    if !counts_within(f.freq, given) {
+    if !counts_within(f.freq as u64, given) {
         return CommandRead::Fault(106);
     }
     let count = given.len();
-    if count as u64 <= f.offset {
+    if count <= f.offset as usize {
         return CommandRead::Fault(106);
     }
     put_counts(given, counts);

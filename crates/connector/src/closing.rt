@@ -5,7 +5,7 @@ ghost use mathlib.Core.Path.{_≡_};
 ghost use Rattle.connector.specs.Change.{ownerLeft, disowned};
 
 // Who owns a transmission once a connection is closed: nobody, if that was the owner.
-fn owner_left(owner: Owner, connection: u64) -> Owner
+fn owner_left(owner: Owner, connection: u8) -> Owner
     ensures { λ r. ⌜ r ≡ ownerLeft owner connection ⌝ }
 {
     if crate::records::owns(owner, connection) {
@@ -16,7 +16,7 @@ fn owner_left(owner: Owner, connection: u64) -> Owner
 }
 
 // One mark is changed, and nothing else.
-pub fn disown(c: &mut Connector, connection: u64)
+pub fn disown(c: &mut Connector, connection: u8)
     ensures { λ _. ⌜ now (c .exit) ≡ disowned (now (c .entry)) connection ⌝ }
 {
     let before = c.owner;
@@ -25,7 +25,7 @@ pub fn disown(c: &mut Connector, connection: u64)
 }
 
 // The same for a record by value, which is lent to it and comes back.
-pub fn disowned(c: Connector, connection: u64) -> Connector
+pub fn disowned(c: Connector, connection: u8) -> Connector
     ensures { λ r. ⌜ r ≡ disowned c connection ⌝ }
 {
     let mut next = c;

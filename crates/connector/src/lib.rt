@@ -11,13 +11,13 @@ ghost use Rattle.connector.specs.Record.{freshConnector};
 // Who hears of a transmission: a connection, or nobody.
 pub enum Owner {
     Nobody,
-    Connection(u64),
+    Connection(u8),
 }
 
 // A contact: no reading since the hub or the mode began, or the last one.
 pub enum Contact {
     Unread,
-    Read(u64),
+    Read(u8),
 }
 
 // A transmission: the command's fields, its number of pairs, and how far it is.

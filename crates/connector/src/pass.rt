@@ -31,7 +31,7 @@ pub fn pass(c: Connector, place: Place, wait: Micros) -> Passing
             let fields = run.fields;
             let old = run.pace;
             let owner = c.owner;
-            match old.passed(fields.freq, wait) {
+            match old.passed(fields.freq as u64, wait) {
                 Passed::Running(pace) => {
                     let next = Run {
                         fields,
@@ -45,7 +45,7 @@ pub fn pass(c: Connector, place: Place, wait: Micros) -> Passing
                         owner,
                         moment,
                         place,
-                        id: fields.id,
+                        id: fields.id as u64,
                     };
                     let next = crate::records::with_sending(c, Owner::Nobody, Sending::Idle);
                     Passing::Complete(next, completion)

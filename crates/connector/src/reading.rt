@@ -20,6 +20,6 @@ pub fn reading(c: Connector, value: u64) -> Stepped
     }
     Stepped {
         answer: Answer::Taken,
-        change: Change::Becomes(crate::records::with_reading(c, value)),
+        change: Change::Becomes(crate::records::with_reading(c, value as u8)),
     }
 }

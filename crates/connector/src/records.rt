@@ -49,7 +49,7 @@ pub fn with_mode(c: Connector, mode: Mode) -> Connector
     }
 }
 
-pub fn with_reading(c: Connector, value: u64) -> Connector
+pub fn with_reading(c: Connector, value: u8) -> Connector
     ensures { λ r. ⌜ r ≡ withReading c value ⌝ }
 {
     let owner = c.owner;
@@ -109,7 +109,7 @@ pub fn renewed(c: Connector) -> Connector
     }
 }
 
-pub fn owns(owner: Owner, connection: u64) -> bool
+pub fn owns(owner: Owner, connection: u8) -> bool
     ensures { λ r. ⌜ r ≡ owns owner connection ⌝ }
 {
     match owner {

@@ -49,7 +49,7 @@ fn same_fields(a: Fields, b: Fields) -> bool
 fn verdict_of(
     c: Connector,
     kept: &[u16],
-    connection: u64,
+    connection: u8,
     f: Fields,
     counts: &[u16; Code::MOST_COUNTS],
     count: usize,
@@ -100,7 +100,7 @@ fn run_of(f: Fields, counts: &[u16; Code::MOST_COUNTS], count: usize) -> Run
 fn commanded(
     c: Connector,
     kept: &mut [u16],
-    connection: u64,
+    connection: u8,
     place: Place,
     f: Fields,
     counts: &[u16; Code::MOST_COUNTS],
@@ -127,7 +127,10 @@ fn commanded(
             answer: Answer::Taken,
             change: Change::Becomes(crate::records::renewed(c)),
         },
-        Verdict::Busy => says(Reply::Busy { place, id: f.id }),
+        Verdict::Busy => says(Reply::Busy {
+            place,
+            id: f.id as u64,
+        }),
     }
 }
 
@@ -135,7 +138,7 @@ fn commanded(
 pub fn send(
     c: Connector,
     kept: &mut [u16],
-    connection: u64,
+    connection: u8,
     text: &[u8],
     place: Place,
     at: usize,

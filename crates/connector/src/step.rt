@@ -54,12 +54,15 @@ fn get_contact(c: Connector, place: Place) -> Stepped
     let contact = c.contact;
     match contact {
         Contact::Unread => fails(28, place),
-        Contact::Read(state) => says(Reply::State { place, state }),
+        Contact::Read(value) => says(Reply::State {
+            place,
+            state: value as u64,
+        }),
     }
 }
 
 // Whom a stopir tells besides the asker: the owner, if another connection.
-fn also_told(owner: Owner, connection: u64) -> Owner
+fn also_told(owner: Owner, connection: u8) -> Owner
     ensures { λ r. ⌜ r ≡ alsoTold owner connection ⌝ }
 {
     if crate::records::owns(owner, connection) {
@@ -70,7 +73,7 @@ fn also_told(owner: Owner, connection: u64) -> Owner
 }
 
 // stopir: 013 in SENSOR; nothing is transmitted any more, and nobody owns it.
-fn stop(c: Connector, connection: u64, place: Place) -> Stepped
+fn stop(c: Connector, connection: u8, place: Place) -> Stepped
     ensures { λ r. ⌜ r ≡ stops c connection place ⌝ }
 {
     let mode = c.mode;
@@ -91,7 +94,7 @@ fn stop(c: Connector, connection: u64, place: Place) -> Stepped
 pub fn step(
     c: Connector,
     kept: &mut [u16],
-    connection: u64,
+    connection: u8,
     text: &[u8],
     place: Place,
     ask: Ask,

@@ -30,7 +30,7 @@ fn step_in(
     c: Connector,
     store: &mut [u16],
     from: usize,
-    connection: u64,
+    connection: u8,
     text: &[u8],
     place: Place,
     ask: Ask,
@@ -59,7 +59,7 @@ fn relay_step(state: u64, slot: usize, place: Place, turn: Turn) -> Decided
     }
 }
 
-pub fn asked(hub: Hub, store: &mut Store, connection: u64, text: &[u8], request: Request) -> Decided
+pub fn asked(hub: Hub, store: &mut Store, connection: u8, text: &[u8], request: Request) -> Decided
     requires { ⌜ SoundHub hub × Within request ⌝ }
     ensures { λ r. ⌜ Decides (askedStep hub (now (store .entry)) connection (now (text .entry)) request) r (now (store .exit)) ⌝ }
 {

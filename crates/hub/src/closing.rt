@@ -6,7 +6,7 @@ ghost use Rattle.hub.specs.Calls.{allDisowned};
 
 pub fn disowned(
     connectors: [Connector; Hub::CONNECTORS],
-    connection: u64,
+    connection: u8,
 ) -> [Connector; Hub::CONNECTORS]
     ensures { λ r. ⌜ r ≡ allDisowned connectors connection ⌝ }
 {

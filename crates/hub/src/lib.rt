@@ -101,7 +101,7 @@ impl Hub {
             return crate::answers::refused(101);
         }
         let request = request::read::read_request(text);
-        let decided = crate::ask::asked(self, store, connection, text, request);
+        let decided = crate::ask::asked(self, store, connection as u8, text, request);
         crate::answers::written(decided, reply)
     }
 
@@ -144,7 +144,7 @@ impl Hub {
             };
         }
         let before = self.connectors;
-        let connectors = crate::closing::disowned(before, connection);
+        let connectors = crate::closing::disowned(before, connection as u8);
         let relays = self.relays;
         Moved {
             answer: Answer::Taken,

@@ -8,7 +8,7 @@ ghost use Rattle.meaning.specs.Time.{lasts};
 ghost use Rattle.pace.specs.Pace.{SoundPace, WideCount, periods, micros, ticks, started, endOf, begun, renewed, placeOf, movedTo, passed};
 
 // A number of carrier periods.
-pub struct Periods(pub u64);
+pub struct Periods(pub u32);
 
 // A number of microseconds.
 pub struct Micros(pub u64);
@@ -21,7 +21,7 @@ pub struct Ticks(pub u64);
 pub struct Pace {
     pub lead: Periods,
     pub tail: Periods,
-    pub copies: u64,
+    pub copies: u32,
     pub at: Ticks,
 }
 
@@ -32,10 +32,10 @@ pub enum Passed {
 }
 
 // A count as a number of periods.
-fn wide(count: u16) -> u64
+fn wide(count: u16) -> u32
     ensures { λ r. ⌜ WideCount count r ⌝ }
 {
-    count as u64
+    count as u32
 }
 
 // What the pairs from one to before another last.
@@ -44,7 +44,7 @@ pub fn periods_of(counts: &[u16; Code::MOST_COUNTS], from: usize, to: usize) -> 
     ensures { λ r. ⌜ r ≡ periods (lasts (numbers (now (counts .entry)) (2 * from) (2 * (to - from)))) ⌝ }
 {
     let end = 2 * to;
-    let mut sum: u64 = 0;
+    let mut sum: u32 = 0;
     let mut i = 2 * from;
     while i < end {
         sum += wide(counts[i]);
@@ -54,7 +54,7 @@ pub fn periods_of(counts: &[u16; Code::MOST_COUNTS], from: usize, to: usize) -> 
 }
 
 impl Pace {
-    pub fn started(lead: Periods, tail: Periods, repeat: u64) -> Self
+    pub fn started(lead: Periods, tail: Periods, repeat: u32) -> Self
         ensures { λ r. ⌜ r ≡ started lead tail repeat ⌝ }
     {
         let at = Ticks(0);
@@ -71,7 +71,7 @@ impl Pace {
         requires { ⌜ SoundPace self ⌝ }
         ensures { λ r. ⌜ r ≡ ticks (endOf self) ⌝ }
     {
-        Ticks((self.lead.0 + self.copies * self.tail.0) * 1000000)
+        Ticks((self.lead.0 as u64 + self.copies as u64 * self.tail.0 as u64) * 1000000)
     }
 
     // The copies that have begun; at an exact boundary the next has.
@@ -79,20 +79,20 @@ impl Pace {
         requires { ⌜ SoundPace self ⌝ }
         ensures { λ r. ⌜ r ≡ begun self ⌝ }
     {
-        let lead = self.lead.0 * 1000000;
+        let lead = self.lead.0 as u64 * 1000000;
         if self.at.0 < lead {
             return 1;
         }
-        1 + (self.at.0 - lead) / (self.tail.0 * 1000000)
+        1 + (self.at.0 - lead) / (self.tail.0 as u64 * 1000000)
     }
 
     // The copies begun and so many more; those that are finished are taken off both sides.
-    pub fn renewed(self, repeat: u64) -> Pace
+    pub fn renewed(self, repeat: u32) -> Pace
         requires { ⌜ SoundPace self × (repeat ≤ 20) ⌝ }
         ensures { λ r. ⌜ r ≡ renewed self repeat ⌝ }
     {
         let finished = self.begun() - 1;
-        let at = Ticks(self.at.0 - finished * (self.tail.0 * 1000000));
+        let at = Ticks(self.at.0 - finished * (self.tail.0 as u64 * 1000000));
         let lead = self.lead;
         let tail = self.tail;
         Pace {
@@ -108,11 +108,11 @@ impl Pace {
         requires { ⌜ SoundPace self ⌝ }
         ensures { λ r. ⌜ r ≡ ticks (placeOf self) ⌝ }
     {
-        let lead = self.lead.0 * 1000000;
+        let lead = self.lead.0 as u64 * 1000000;
         if self.at.0 < lead {
             return self.at;
         }
-        Ticks(lead + (self.at.0 - lead) % (self.tail.0 * 1000000))
+        Ticks(lead + (self.at.0 - lead) % (self.tail.0 as u64 * 1000000))
     }
 
     fn moved(self, at: Ticks) -> Pace

@@ -6,10 +6,10 @@ pub struct Pair {
     pub off: u16,
 }
 
-// The fields of a sendir behind its address, the repeat as capped.
+// The fields of a sendir behind its address, the repeat as capped. 32 bits hold more than any that is legal.
 pub struct Fields {
-    pub id: u64,
-    pub freq: u64,
-    pub repeat: u64,
-    pub offset: u64,
+    pub id: u32,
+    pub freq: u32,
+    pub repeat: u32,
+    pub offset: u32,
 }

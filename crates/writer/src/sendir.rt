@@ -36,10 +36,10 @@ fn put_head(buf: &mut [u8], port: u64, f: Fields) -> usize
 {
     let a = text::write::put_word(buf, 0, b"sendir,1:");
     let b = put_field(buf, a, port);
-    let c = put_field(buf, b, f.id);
-    let d = put_field(buf, c, f.freq);
-    let e = put_field(buf, d, f.repeat);
-    put_field(buf, e, f.offset)
+    let c = put_field(buf, b, f.id as u64);
+    let d = put_field(buf, c, f.freq as u64);
+    let e = put_field(buf, d, f.repeat as u64);
+    put_field(buf, e, f.offset as u64)
 }
 
 // The line of a command in either form, or 105, then 106, and nothing written.

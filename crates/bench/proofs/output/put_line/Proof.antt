@@ -32,9 +32,6 @@ add-end c = search needs
 add-end-2 : tie.Need-add-end-2
 add-end-2 c = search needs
 
-cast-out : tie.Need-cast-out
-cast-out c = search needs
-
 add-out : tie.Need-add-out
 add-out c = search needs
 
@@ -72,7 +69,6 @@ put-line-spec =
     returns-4
     add-end
     add-end-2
-    cast-out
     add-out
     slice-write-out
     add-out-2

@@ -1,8 +1,10 @@
 -- `command::fields::fields_at` meets its contract.
 use mathlib.Core.Path.{_≡_, sym, _∙_}
 use denote.Ref.{now}
+use native.Mathlib.Omega.{arith}
 use borrow.Author.Tests.{eq-eqb, ne-eqb}
 use Rattle.command.specs.Fields.{fieldsAt}
+use Rattle.command.proofs.Accepted.{good-most}
 use Rattle.command.proofs.Sending.{freqAt, repeatAt, offsetAt}
 use borrow.Author.Needs.{needs}
 use Rattle.command.proofs.fields.fields_at.Statement.{statement}
@@ -100,8 +102,28 @@ returns-5 c =
       eq-eqb _ _ (c .if1 .taken),
     )
 
+cast-t21 : tie.Need-cast-t21
+cast-t21 c =
+    let id = c .before .before .before .before .before .before .before .before .before .before .before .before .before .before .before .before .before in
+    omega (arith, good-most _ _ _ _ (sym (id .before .before .field-within .ensures) ∙ id .id .given .1))
+
+cast-t22 : tie.Need-cast-t22
+cast-t22 c =
+    let freq = c .before .before .before .before .before .before .before .before .before .before .before .before in
+    omega (arith, good-most _ _ _ _ (sym (freq .before .before .field-within2 .ensures) ∙ freq .freq .given .1))
+
+cast-capped : tie.Need-cast-capped
+cast-capped c =
+    let repeat = c .before .before .before .before .before .before .before in
+    omega (arith, good-most _ _ _ _ (sym (repeat .before .before .field-within3 .ensures) ∙ repeat .repeat .given .1))
+
 capped-requires : tie.Need-capped-requires
 capped-requires c κs = search needs
+
+cast-t25 : tie.Need-cast-t25
+cast-t25 c =
+    let offset = c .before .before .before in
+    omega (arith, good-most _ _ _ _ (sym (offset .before .before .field-within4 .ensures) ∙ offset .offset .given .1))
 
 after-comma-requires-4 : tie.Need-after-comma-requires-4
 after-comma-requires-4 c κs = search needs
@@ -140,6 +162,10 @@ fields-at-spec =
     enum-told-4
     returns-4
     returns-5
+    cast-t21
+    cast-t22
+    cast-capped
     capped-requires
+    cast-t25
     after-comma-requires-4
     returns-6)

@@ -24,16 +24,22 @@ returns-2 : tie.Need-returns-2
 unfolding commandGiven
 returns-2 c = rw (sym (c .before .before .before .before .place-within .ensures) ∙ not-false _ (c .before .before .before .if1 .left), sym (c .before .given-within .ensures) ∙ not-true _ (c .if2 .taken)) (nothing-found _ _)
 
+cast-counts-within : tie.Need-cast-counts-within
+cast-counts-within c = search needs
+
 counts-within-requires : tie.Need-counts-within-requires
 counts-within-requires c κs = search needs
 
 returns-3 : tie.Need-returns-3
 unfolding commandGiven
-returns-3 c = rw (sym (c .before .before .before .before .before .before .place-within .ensures) ∙ not-false _ (c .before .before .before .before .before .if1 .left), sym (c .before .before .before .given-within .ensures) ∙ not-false _ (c .before .before .if2 .left), sym (c .before .counts-within .ensures) ∙ not-true _ (c .if3 .taken)) (nothing-found _ _)
+returns-3 c = rw (sym (c .before .before .before .before .before .before .before .place-within .ensures) ∙ not-false _ (c .before .before .before .before .before .before .if1 .left), sym (c .before .before .before .before .given-within .ensures) ∙ not-false _ (c .before .before .before .if2 .left), sym (c .before .counts-within .ensures) ∙ not-true _ (c .if3 .taken)) (nothing-found _ _)
+
+cast-if4 : tie.Need-cast-if4
+cast-if4 c = search needs
 
 returns-4 : tie.Need-returns-4
 unfolding commandGiven
-returns-4 c = rw (sym (c .before .before .before .before .before .before .before .before .place-within .ensures) ∙ not-false _ (c .before .before .before .before .before .before .before .if1 .left), sym (c .before .before .before .before .before .given-within .ensures) ∙ not-false _ (c .before .before .before .before .if2 .left), sym (c .before .before .before .counts-within .ensures) ∙ not-false _ (c .before .before .if3 .left), le-leb _ _ (c .if4 .taken)) (nothing-found _ _)
+returns-4 c = rw (sym (c .before .before .before .before .before .before .before .before .before .place-within .ensures) ∙ not-false _ (c .before .before .before .before .before .before .before .before .if1 .left), sym (c .before .before .before .before .before .before .given-within .ensures) ∙ not-false _ (c .before .before .before .before .before .if2 .left), sym (c .before .before .before .counts-within .ensures) ∙ not-false _ (c .before .before .if3 .left), le-leb _ _ (c .if4 .taken)) (nothing-found _ _)
 
 put-counts-requires : tie.Need-put-counts-requires
 put-counts-requires c κs =
@@ -48,8 +54,8 @@ returns-5 : tie.Need-returns-5
 unfolding commandGiven
 returns-5 c =
     let within = counts-in _ _ (sym (c .before .before .before .before .before .before .counts-within .ensures) ∙ not-false _ (c .before .before .before .before .before .if3 .left)) in
-    let size : length (now (c .before .before .before .before .before .before .before .before .before .before .before .before .before .before .args .counts)) ≡ 520 = search needs in
-    rw (sym (c .before .before .before .before .before .before .before .before .before .before .before .place-within .ensures) ∙ not-false _ (c .before .before .before .before .before .before .before .before .before .before .if1 .left), sym (c .before .before .before .before .before .before .before .before .given-within .ensures) ∙ not-false _ (c .before .before .before .before .before .before .before .if2 .left), sym (c .before .before .before .before .before .before .counts-within .ensures) ∙ not-false _ (c .before .before .before .before .before .if3 .left), lt-leb _ _ (c .before .before .before .if4 .left), c .taken .ensures)
+    let size : length (now (c .before .before .before .before .before .before .before .before .before .before .before .before .before .before .before .args .counts)) ≡ 520 = search needs in
+    rw (sym (c .before .before .before .before .before .before .before .before .before .before .before .before .place-within .ensures) ∙ not-false _ (c .before .before .before .before .before .before .before .before .before .before .before .if1 .left), sym (c .before .before .before .before .before .before .before .before .before .given-within .ensures) ∙ not-false _ (c .before .before .before .before .before .before .before .before .if2 .left), sym (c .before .before .before .before .before .before .counts-within .ensures) ∙ not-false _ (c .before .before .before .before .before .if3 .left), lt-leb _ _ (c .before .before .before .if4 .left), c .taken .ensures)
     (given-into _ _ _ _ within size (c .before .put-counts .ensures))
 
 pub command-given-spec : {M : Type 1} → statement M
@@ -60,8 +66,10 @@ command-given-spec =
     returns
     given-within-requires
     returns-2
+    cast-counts-within
     counts-within-requires
     returns-3
+    cast-if4
     returns-4
     put-counts-requires
     taken-requires

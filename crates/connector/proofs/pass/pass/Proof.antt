@@ -10,10 +10,13 @@ enum-told c = search needs
 enum-known-sending : tie.Need-enum-known-sending
 enum-known-sending c = search needs
 
+cast-passed : tie.Need-cast-passed
+cast-passed c = search needs
+
 passed-requires : tie.Need-passed-requires
 passed-requires c κs =
-    let s = rw (c .before .before .before .sending .given .1) at (c .before .before .before .before .before .pre .0) in
-    (s .paced, omega arith, s .freq-high, c .before .before .before .before .before .pre .1)
+    let s = rw (c .before .before .before .before .sending .given .1) at (c .before .before .before .before .before .before .pre .0) in
+    (s .paced, omega arith, s .freq-high, c .before .before .before .before .before .before .pre .1)
 
 enum-known-pace : tie.Need-enum-known-pace
 enum-known-pace c = search needs
@@ -24,6 +27,9 @@ with-sending-requires c κs = search needs
 enum-known-moment : tie.Need-enum-known-moment
 enum-known-moment c = search needs
 
+cast-t20 : tie.Need-cast-t20
+cast-t20 c = search needs
+
 with-sending-requires-2 : tie.Need-with-sending-requires-2
 with-sending-requires-2 c κs = search needs
 
@@ -33,12 +39,12 @@ returns c = search needs
 returns-2 : tie.Need-returns-2
 returns-2 c =
     let was = c .before .before .before .before in
-    rw (was .before .before .before .before .sending .given .1, ← was .passed .ensures, c .before .before .pace .given .1, c .with-sending .ensures)
+    rw (was .before .before .before .before .before .sending .given .1, ← was .passed .ensures, c .before .before .pace .given .1, c .with-sending .ensures)
 
 returns-3 : tie.Need-returns-3
 returns-3 c =
-    let was = c .before .before .before .before in
-    rw (was .before .before .before .before .sending .given .1, ← was .passed .ensures, c .before .before .moment .given .1, c .with-sending2 .ensures)
+    let was = c .before .before .before .before .before in
+    rw (was .before .before .before .before .before .sending .given .1, ← was .passed .ensures, c .before .before .before .moment .given .1, c .with-sending2 .ensures)
 
 pub pass-spec : {M : Type 1} → statement M
 pass-spec =
@@ -46,10 +52,12 @@ pass-spec =
     (tie.spec
     enum-told
     enum-known-sending
+    cast-passed
     passed-requires
     enum-known-pace
     with-sending-requires
     enum-known-moment
+    cast-t20
     with-sending-requires-2
     returns
     returns-2

@@ -25,6 +25,9 @@ returns-2 c =
     let sensor = sym (c .before .before .before .is-sensor .ensures) ∙ not-false _ (c .before .before .if1 .left) in
     rw (sensor, lt-ltb _ _ (c .before .if2 .taken)) (c .refuses2 .ensures)
 
+cast-with-reading : tie.Need-cast-with-reading
+cast-with-reading c = search needs
+
 with-reading-requires : tie.Need-with-reading-requires
 with-reading-requires c κs = search needs
 
@@ -37,11 +40,4 @@ returns-3 c =
 pub reading-spec : {M : Type 1} → statement M
 reading-spec =
     tie.close
-    (tie.spec
-    is-sensor-requires
-    refuses-requires
-    returns
-    refuses-requires-2
-    returns-2
-    with-reading-requires
-    returns-3)
+    (tie.spec is-sensor-requires refuses-requires returns refuses-requires-2 returns-2 cast-with-reading with-reading-requires returns-3)

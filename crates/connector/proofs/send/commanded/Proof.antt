@@ -30,6 +30,9 @@ renewed-requires c κs = search needs
 enum-told-3 : tie.Need-enum-told-3
 enum-told-3 c = search needs
 
+cast-t24 : tie.Need-cast-t24
+cast-t24 c = search needs
+
 says-requires : tie.Need-says-requires
 says-requires c κs = search needs
 
@@ -61,7 +64,7 @@ same-length-3 c = search needs
 returns-3 : tie.Need-returns-3
 unfolding commandStep
 returns-3 c =
-    let verdict = sym (c .before .before .before .verdict-of .ensures) ∙ c .before .enum-told3 .given .1 in
+    let verdict = sym (c .before .before .before .before .verdict-of .ensures) ∙ c .before .before .enum-told3 .given .1 in
     record { result = rw verdict (c .says .ensures); counts = rw verdict }
 
 pub commanded-spec : {M : Type 1} → statement M
@@ -76,6 +79,7 @@ commanded-spec =
     enum-told-2
     renewed-requires
     enum-told-3
+    cast-t24
     says-requires
     same-length
     returns

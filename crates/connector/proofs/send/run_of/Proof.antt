@@ -4,6 +4,9 @@ use borrow.Author.Needs.{needs}
 use Rattle.connector.proofs.send.run_of.Statement.{statement}
 use Rattle.connector.proofs.send.run_of.Tie as tie
 
+cast-before : tie.Need-cast-before
+cast-before c = search needs
+
 periods-of-requires : tie.Need-periods-of-requires
 periods-of-requires c κs = search needs
 
@@ -20,4 +23,4 @@ returns c =
 
 pub run-of-spec : {M : Type 1} → statement M
 run-of-spec =
-    tie.close (tie.spec periods-of-requires periods-of-requires-2 started-requires returns)
+    tie.close (tie.spec cast-before periods-of-requires periods-of-requires-2 started-requires returns)

@@ -25,6 +25,9 @@ fails-requires-2 c κs = search needs
 enum-known-contact : tie.Need-enum-known-contact
 enum-known-contact c = search needs
 
+cast-t9 : tie.Need-cast-t9
+cast-t9 c = search needs
+
 says-requires : tie.Need-says-requires
 says-requires c κs = search needs
 
@@ -43,13 +46,4 @@ returns-3 c =
 pub get-contact-spec : {M : Type 1} → statement M
 get-contact-spec =
     tie.close
-    (tie.spec
-    is-sensor-requires
-    fails-requires
-    returns
-    enum-told
-    fails-requires-2
-    enum-known-contact
-    says-requires
-    returns-2
-    returns-3)
+    (tie.spec is-sensor-requires fails-requires returns enum-told fails-requires-2 enum-known-contact cast-t9 says-requires returns-2 returns-3)

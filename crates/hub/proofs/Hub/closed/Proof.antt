@@ -9,6 +9,9 @@ returns : tie.Need-returns
 unfolding closedCall
 returns c = rw (lt-ltb _ _ (c .if1 .taken))
 
+cast-disowned : tie.Need-cast-disowned
+cast-disowned c = search needs
+
 disowned-requires : tie.Need-disowned-requires
 disowned-requires c κs = search needs
 
@@ -17,4 +20,4 @@ unfolding closedCall
 returns-2 c = rw (le-ltb _ _ (c .before .before .before .if1 .left), c .before .disowned .ensures)
 
 pub closed-spec : {M : Type 1} → statement M
-closed-spec = tie.close (tie.spec returns disowned-requires returns-2)
+closed-spec = tie.close (tie.spec returns cast-disowned disowned-requires returns-2)

@@ -30,6 +30,9 @@ returns-2 c =
 read-request-requires : tie.Need-read-request-requires
 read-request-requires c κs = search needs
 
+cast-asked : tie.Need-cast-asked
+cast-asked c = search needs
+
 asked-requires : tie.Need-asked-requires
 asked-requires c κs = (c .before .before .before .before .before .before .pre, rw (c .before .read-request .ensures) (within _))
 
@@ -56,6 +59,7 @@ line-spec =
     refused-requires-2
     returns-2
     read-request-requires
+    cast-asked
     asked-requires
     written-requires
     same-length

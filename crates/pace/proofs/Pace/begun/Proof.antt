@@ -7,11 +7,17 @@ use borrow.Author.Needs.{needs}
 use Rattle.pace.proofs.Pace.begun.Statement.{statement}
 use Rattle.pace.proofs.Pace.begun.Tie as tie
 
+cast-lead : tie.Need-cast-lead
+cast-lead c = search needs
+
 mul-lead : tie.Need-mul-lead
 mul-lead c = search needs
 
 returns : tie.Need-returns
 returns c = sym (begun-first _ (omega (arith, c .if1 .taken)))
+
+cast-result : tie.Need-cast-result
+cast-result c = search needs
 
 mul-result : tie.Need-mul-result
 mul-result c = search needs
@@ -28,4 +34,4 @@ unfolding begun
 returns-2 c = omega arith
 
 pub begun-spec : {M : Type 1} → statement M
-begun-spec = tie.close (tie.spec mul-lead returns mul-result div-result add-result returns-2)
+begun-spec = tie.close (tie.spec cast-lead mul-lead returns cast-result mul-result div-result add-result returns-2)

@@ -14,25 +14,28 @@ sub-finished : tie.Need-sub-finished
 unfolding begun
 sub-finished c = omega (arith, c .begun .ensures)
 
-mul-t7 : tie.Need-mul-t7
-mul-t7 c = search needs
+cast-t7 : tie.Need-cast-t7
+cast-t7 c = search needs
 
 mul-t8 : tie.Need-mul-t8
-mul-t8 c =
+mul-t8 c = search needs
+
+mul-t9 : tie.Need-mul-t9
+mul-t9 c =
     let h = finished-within (c .before .before .args .self) in
     omega (arith, end-high (c .before .before .pre .0), rw (← c .before .begun .ensures) at h)
 
-sub-t9 : tie.Need-sub-t9
-sub-t9 c =
+sub-t10 : tie.Need-sub-t10
+sub-t10 c =
     let h = finished-within (c .before .before .before .args .self) in
     omega (arith, rw (← c .before .before .begun .ensures) at h)
 
-add-t7 : tie.Need-add-t7
-add-t7 c = search needs
+add-t11 : tie.Need-add-t11
+add-t11 c = search needs
 
 returns : tie.Need-returns
 unfolding renewed
 returns c = rw (c .before .before .before .before .begun .ensures, one-add)
 
 pub renewed-spec : {M : Type 1} → statement M
-renewed-spec = tie.close (tie.spec begun-requires sub-finished mul-t7 mul-t8 sub-t9 add-t7 returns)
+renewed-spec = tie.close (tie.spec begun-requires sub-finished cast-t7 mul-t8 mul-t9 sub-t10 add-t11 returns)

@@ -100,11 +100,15 @@ module _ (log : List Deed) (connection : ℕ) (line : List ℕ) where
   abbrev pub inSensor : Bool
   inSensor = is "SENSOR" (modeOf p log)
 
-  unfoldable pub getdevices : Row
-  getdevices = row (more 1 ∷ []) (reply (bytes "device,0,0 ETHERNET\rdevice,1,3 IR\rdevice,2,3 RELAY\rendlistdevices\r") [])
+  -- a request without an address: its name is all of it, and its reply is always the same
+  abbrev pub fixed : List ℕ → Row
+  fixed words = row (more 1 ∷ []) (reply words [])
 
-  unfoldable pub getversion : Row
-  getversion = row (more 1 ∷ []) (reply (bytes "LH-01\r") [])
+  abbrev pub getdevices : Row
+  getdevices = fixed (bytes "device,0,0 ETHERNET\rdevice,1,3 IR\rdevice,2,3 RELAY\rendlistdevices\r")
+
+  abbrev pub getversion : Row
+  getversion = fixed (bytes "LH-01\r")
 
   -- "the present mode again changes nothing"
   unfoldable pub set-IR : Row

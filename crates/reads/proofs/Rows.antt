@@ -47,7 +47,7 @@ use Rattle.request.specs.Request.{isPrintable, alone, setIrAt, setStateAt, getS
 use Rattle.command.specs.Fields.{capped, fieldsAt}
 use Rattle.command.specs.Read.{codeRead, codeAt, commandAt}
 use Rattle.reads.specs.Readings.{readingOf}
-use Rattle.reads.specs.Meant.{sensorAt, meantCommand, meantRead, meant}
+use Rattle.reads.specs.Meant.{sensorAt, meantCommand, meantRead, meantFixed, meant}
 use Rattle.reads.proofs.Cursor.{word-is, isMode, modeIn, word-back, counts, counts-within, Cursor, start, field-is, next, over, within-is, address-is-at, mode-is}
 use Rattle.reads.proofs.Bytewise.{code-bytewise}
 
@@ -250,22 +250,20 @@ module _ (log : List Deed) (connection : ℕ) (s : List ℕ) where
   first-row r w e =
       sym (alone-row (start s) r) ∙ ap (λ (n : ℕ). makes (alone s n r)) (zero-add (length (field 0)) ∙ ap length (sym e))
 
-  getdevices-row : fixedWord Devices ≡ field 0 → Agrees (table.getdevices log connection s) (worded s (Alone Devices))
-  unfolding table.getdevices
-  getdevices-row e = record { is = first-row (request.Fixed Devices) (fixedWord Devices) e }
-
-  getversion-row : fixedWord Version ≡ field 0 → Agrees (table.getversion log connection s) (worded s (Alone Version))
-  unfolding table.getversion
-  getversion-row e = record { is = first-row (request.Fixed Version) (fixedWord Version) e }
+  -- a request without an address, whichever it is
+  fixed-row : (fixed : Fixed) → fixedWord fixed ≡ field 0
+      → Agrees (table.row (table.more log connection s 1 ∷ []) (meantFixed fixed)) (worded s (Alone fixed))
+  fixed-row fixed e = record { is = first-row (request.Fixed fixed) (fixedWord fixed) e }
 
   -- one word more
   record AgreesWord (r : Row) (w : WordRead) : Type 0 where
     is : Agrees r (asked s w)
 
-  by-word : (w : Word) {r q : Row} {other : WordRead} → (wordOf w ≡ field 0 → Agrees r (worded s w)) → AgreesWord q other
-      → AgreesWord (cond (same (wordOf w) (field 0)) r q) (cond (same (wordOf w) (field 0)) (Known w) other)
-  by-word w f g =
-      by-test (same (wordOf w) (field 0)) (λ t. rw t (record { is = f (same-is (wordOf w) (field 0) t) })) (λ t. rw t g)
+  by-word : (w : Word) {r q : Row} {other : WordRead} → count 44 (wordOf w) ≡ 0 → (wordOf w ≡ field 0 → Agrees r (worded s w))
+      → AgreesWord q other → AgreesWord (cond (same (wordOf w) (field 0)) r q) (cond (fieldIs (wordOf w) s) (Known w) other)
+  by-word w n f g =
+      rw (name-is (wordOf w) n)
+      (by-test (same (wordOf w) (field 0)) (λ t. rw t (record { is = f (same-is (wordOf w) (field 0) t) })) (λ t. rw t g))
 
   -- 001 "the name up to the first comma is unknown"
   unknown : AgreesWord (table.row [] (no 1)) Unknown
@@ -274,27 +272,15 @@ module _ (log : List Deed) (connection : ℕ) (s : List ℕ) where
   request-row : ltb 4096 (length s) ≡ false → all (between 32 126) s ≡ true → Agrees (table.request log connection s) (readRequest s)
   unfolding table.request readRequest wordAt
   request-row short plain =
-      rw (
-        short,
-        all-alike isPrintable (between 32 126) (between-is 32 126) s,
-        plain,
-        name-is (fixedWord Devices) refl,
-        name-is (fixedWord Version) refl,
-        name-is (nameOf name.SetIr) refl,
-        name-is (nameOf name.GetIr) refl,
-        name-is (nameOf name.SetState) refl,
-        name-is (nameOf name.GetState) refl,
-        name-is (nameOf name.SendIr) refl,
-        name-is (nameOf name.StopIr) refl,
-      )
-      (by-word (Alone Devices) getdevices-row
-      (by-word (Alone Version) getversion-row
-      (by-word (Named name.SetIr) set-IR-row
-      (by-word (Named name.GetIr) get-IR-row
-      (by-word (Named name.SetState) setstate-row
-      (by-word (Named name.GetState) getstate-row
-      (by-word (Named name.SendIr) sendir-row
-      (by-word (Named name.StopIr) stopir-row unknown))))))) .is)
+      rw (short, all-alike isPrintable (between 32 126) (between-is 32 126) s, plain)
+      (by-word (Alone Devices) refl (fixed-row Devices)
+      (by-word (Alone Version) refl (fixed-row Version)
+      (by-word (Named name.SetIr) refl set-IR-row
+      (by-word (Named name.GetIr) refl get-IR-row
+      (by-word (Named name.SetState) refl setstate-row
+      (by-word (Named name.GetState) refl getstate-row
+      (by-word (Named name.SendIr) refl sendir-row
+      (by-word (Named name.StopIr) refl stopir-row unknown))))))) .is)
 
   -- 015, and 001 for a byte
   too-long : ltb 4096 (length s) ≡ true → makes (readRequest s) ≡ no 15

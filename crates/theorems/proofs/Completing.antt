@@ -18,7 +18,7 @@ use Rattle.text.proofs.Decimals.{decimal-small}
 use Rattle.meaning.specs.Line as text
 use Rattle.meaning.specs.Time.{Transmission, complete, finish}
 use Rattle.meaning.specs.Log.{Deed, passed, setting, switched, event, started, renewed, halted, left, now, lastOf, ownerOf, onAir}
-use Rattle.meaning.specs.Table.{Completion, refused, taken, replied, Judged, refusal, error, does, Row, no, Call, line, overlong, reading, closing, waiting, answerOf, deedsOf, judge, logged, logOf, rowOf, dueOf, due, inserted, ordered, completions, getdevices, getversion, set-IR, get-IR, setstate, getstate, sendir, stopir, request}
+use Rattle.meaning.specs.Table.{Completion, refused, taken, replied, Judged, refusal, error, does, Row, no, Call, line, overlong, reading, closing, waiting, answerOf, deedsOf, judge, logged, logOf, rowOf, dueOf, due, inserted, ordered, completions, set-IR, get-IR, setstate, getstate, sendir, stopir, request}
 use Rattle.theorems.specs.Deeds.{Port, Did, nothing, changes, reads, switches, starts, renews, halts, leaves, passes}
 use Rattle.theorems.specs.Notices.{Notice, noticeOf, isFor, noticesIn, noticesOf, notices, loggedAll, touches, startsOn, LeftAlone, Unstarted}
 use Rattle.theorems.proofs.Rows.{by-rows}
@@ -40,8 +40,8 @@ abbrev plainRow : Row → Bool
 plainRow r = all (λ k. plain (k .gives)) (r .checks) && plain (r .otherwise)
 
 request-plain : (log : List Deed) (connection : ℕ) (s : List ℕ) → plainRow (request log connection s) ≡ true
-unfolding getdevices getversion set-IR get-IR setstate getstate sendir stopir
-request-plain log connection s = by-rows log connection s (λ r. plainRow r ≡ true) refl refl refl refl refl refl refl refl refl
+unfolding set-IR get-IR setstate getstate sendir stopir
+request-plain log connection s = by-rows log connection s (λ r. plainRow r ≡ true) (λ _ _. refl) refl refl refl refl refl refl refl
 
 plain-tells : (p t : ℕ) (j : Judged) → plain j ≡ true → noticesOf p t (answerOf j) ≡ []
 plain-tells p t (refusal n) e = refl

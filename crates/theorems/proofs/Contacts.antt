@@ -20,7 +20,7 @@ use Rattle.text.proofs.Decimals.{decimal-small}
 use Rattle.meaning.specs.Line as text
 use Rattle.meaning.specs.Log.{Deed, passed, setting, switched, event, changed, felt, modeOf, contactOf, relayOf}
 use Rattle.meaning.specs.Table as table
-use Rattle.meaning.specs.Table.{refused, taken, replied, Judged, refusal, error, does, Row, row, no, reply, Call, line, overlong, reading, closing, waiting, answerOf, deedsOf, rowOf, judge, logged, logOf, field, getdevices, getversion, set-IR, get-IR, setstate, getstate, sendir, stopir, request}
+use Rattle.meaning.specs.Table.{refused, taken, replied, Judged, refusal, error, does, Row, row, no, reply, Call, line, overlong, reading, closing, waiting, answerOf, deedsOf, rowOf, judge, logged, logOf, field, fixed, set-IR, get-IR, setstate, getstate, sendir, stopir, request}
 use Rattle.theorems.specs.Deeds.{Port, inSensor, Did, nothing, changes, reads, switches, starts, renews, halts, leaves, passes}
 use Rattle.theorems.specs.Contacts.{AsksState, isSetting, LastFelt, LastReading, isSwitching, LastSwitched, never, last}
 use Rattle.theorems.proofs.Rows.{by-rows, by-line}
@@ -156,11 +156,10 @@ module _ (log : List Deed) (p v : ℕ) (told : Option ℕ) (port : Port connecto
         }))))))))
 
     request-contact : RowContact (request log connection s)
-    unfolding getdevices getversion set-IR get-IR setstate sendir stopir decimal
+    unfolding set-IR get-IR setstate sendir stopir decimal
     request-contact =
         by-rows log connection s RowContact
-        (no-contact-row (getdevices log connection s) refl)
-        (no-contact-row (getversion log connection s) refl)
+        (λ words apart. no-contact-row (fixed log connection s words) (rw (apart .contact)))
         (no-contact-row (set-IR log connection s) refl)
         (no-contact-row (get-IR log connection s) refl)
         (no-contact-row (setstate log connection s) refl)
@@ -228,11 +227,10 @@ module _ (log : List Deed) (p v : ℕ) (told : Option ℕ) (port : Port relays p
         }))))))
 
     request-relay : RowRelay (request log connection s)
-    unfolding getdevices getversion set-IR get-IR sendir stopir decimal
+    unfolding set-IR get-IR sendir stopir decimal
     request-relay =
         by-rows log connection s RowRelay
-        (no-relay-row (getdevices log connection s) refl)
-        (no-relay-row (getversion log connection s) refl)
+        (λ words apart. no-relay-row (fixed log connection s words) (rw (apart .relay)))
         (no-relay-row (set-IR log connection s) refl)
         (no-relay-row (get-IR log connection s) refl)
         setstate-relay

@@ -17,7 +17,7 @@ use Rattle.laws.proofs.Lists.{same-is, same-self}
 use Rattle.words.specs.Places.{connectors, portsOf}
 use Rattle.meaning.specs.Line.{is, isNumber, number, within, codeIn}
 use Rattle.meaning.specs.Log.{Deed, isOwner, ownerOf, onAir, modeOf}
-use Rattle.meaning.specs.Table.{Judged, Row, Call, line, overlong, reading, closing, waiting, deedsOf, judge, getdevices, getversion, set-IR, get-IR, setstate, getstate, sendir, stopir, request, field, rowOf}
+use Rattle.meaning.specs.Table.{Judged, Row, Call, line, overlong, reading, closing, waiting, deedsOf, judge, set-IR, get-IR, setstate, getstate, sendir, stopir, request, field, rowOf}
 use Rattle.meaning.specs.Table as table
 use Rattle.theorems.proofs.Codes.{code-pairs}
 use Rattle.theorems.proofs.Rows.{by-rows, by-line}
@@ -161,11 +161,10 @@ module _ (log : List Deed) (connection room : ℕ) (text : List ℕ) (c : connec
       capped-most n = cond-case (λ (k : ℕ). k ≤ 20) (ltb 20 n) 20 n (λ _. omega arith) (λ e. ltb-false 20 n e)
 
   request-did : Meets log asks (request log connection text)
-  unfolding getdevices getversion get-IR
+  unfolding get-IR
   request-did =
       by-rows log connection text (Meets log asks)
-      (past nothing (λ _. nothing))
-      (past nothing (λ _. nothing))
+      (λ _ _. past nothing (λ _. nothing))
       set-IR-did
       (past nothing (λ _. past nothing (λ _. past nothing (λ _. past nothing (λ _. nothing)))))
       setstate-did

@@ -4,7 +4,7 @@ use Prim.Native.Nat.{ℕ, _+_}
 use mathlib.Core.Path.{_≡_, refl, ap, ap₂, subst}
 use mathlib.Core.Bool.{Bool, true, false, cond, not, _&&_}
 use mathlib.Core.List.{List, [], _∷_, _++_, map}
-use mathlib.Core.Option.{Option, Option·map}
+use mathlib.Core.Option.{Option, none, Option·map}
 use native.Mathlib.Nat.{add-assoc, add-zero}
 use borrow.Author.Tests.{not-true}
 use lib.Dec.{ltb, eqb}
@@ -18,8 +18,9 @@ use Rattle.words.specs.Places.{ports}
 use Rattle.meaning.specs.Time.{Transmission, carrier}
 use Rattle.meaning.specs.Time as time
 use Rattle.meaning.specs.Log.{Deed, passed, setting, switched, event, changed, felt, started, renewed, halted, left, now, modeOf, contactOf, relayOf, lastOf, ownerOf, onAir, until}
-use Rattle.meaning.specs.Table.{refused, taken, replied, Judged, refusal, error, does, Row, no, Call, line, overlong, reading, closing, waiting, answerOf, deedsOf, rowOf, judge, logged, dueOf, due, ordered, completions, carriers, Said, said, getdevices, getversion, set-IR, get-IR, setstate, getstate, sendir, stopir, request}
+use Rattle.meaning.specs.Table.{refused, taken, replied, Judged, refusal, error, does, Row, no, Call, line, overlong, reading, closing, waiting, answerOf, deedsOf, rowOf, judge, logged, dueOf, due, ordered, completions, carriers, Said, said, set-IR, get-IR, setstate, getstate, sendir, stopir, request}
 use Rattle.theorems.specs.Later.{Alike}
+use Rattle.theorems.specs.Occasion.{saysError}
 use Rattle.theorems.proofs.Rows.{by-rows}
 
 module _ (a b : List Deed) (q : Alike a b) where
@@ -110,17 +111,9 @@ module _ (a b : List Deed) (q : Alike a b) where
     unfolding stopir
     stopir-same = rw (q .modes, airs, q .owners)
 
-    devices-same : getdevices a c s ≡ getdevices b c s
-    unfolding getdevices
-    devices-same = refl
-
-    version-same : getversion a c s ≡ getversion b c s
-    unfolding getversion
-    version-same = refl
-
     request-same : request a c s ≡ request b c s
     unfolding request
-    request-same = rw (devices-same, version-same, set-IR-same, get-IR-same, setstate-same, getstate-same, sendir-same, stopir-same)
+    request-same = rw (set-IR-same, get-IR-same, setstate-same, getstate-same, sendir-same, stopir-same)
 
   due-same : (n p : ℕ) → due n a p ≡ due n b p
   due-same n p = λ i. dueOf n (q .moments i) p (q .owners p i) (airs p i)
@@ -198,8 +191,13 @@ abbrev honestRow : Row → Bool
 honestRow r = all (λ k. honest (k .gives)) (r .checks) && honest (r .otherwise)
 
 request-honest : (log : List Deed) (c : ℕ) (s : List ℕ) → honestRow (request log c s) ≡ true
-unfolding getdevices getversion set-IR get-IR setstate getstate sendir stopir
-request-honest log c s = by-rows log c s (λ r. honestRow r ≡ true) refl refl refl refl refl refl refl refl refl
+unfolding set-IR get-IR setstate getstate sendir stopir
+request-honest log c s =
+    by-rows log c s (λ r. honestRow r ≡ true) (λ words apart. no-error words (apart .error)) refl refl refl refl refl refl refl
+  where
+    no-error : (words : List ℕ) → saysError (replied words none) ≡ false → not (same (bytes "ERR_") (take 4 words)) ≡ true
+    no-error [] e = refl
+    no-error (b ∷ words) e = rw e
 
 call-honest : (log : List Deed) (call : Call) → honest (judge log call) ≡ true
 call-honest log (line c room s) =

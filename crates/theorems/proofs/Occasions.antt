@@ -18,11 +18,12 @@ use Rattle.words.specs.Pairs.{pair}
 use Rattle.words.specs.Places.{connectors, relays, portsOf}
 use Rattle.words.specs.declared.Pair.{Pair}
 use Rattle.text.proofs.Decimals.{decimal-small}
-use Rattle.meaning.specs.Line.{number, isNumber, within, isAddress, is, isCount, isLetter, lettered, Reach, opening, on, offDue, off, spelling, Stride, stop, go, lettering, beginning, stride, Reading, faulty, sound, ended, after, reads, codeIn}
+use Rattle.meaning.specs.Line.{number, isNumber, within, isAddress, isCount, isLetter, lettered, Reach, opening, on, offDue, off, spelling, Stride, stop, go, lettering, beginning, stride, Reading, faulty, sound, ended, after, reads, codeIn}
 use Rattle.meaning.specs.Log.{Deed}
 use Rattle.meaning.specs.Table as table
 use Rattle.meaning.specs.Table.{Answer, Judged, refusal, error, does, no, answerOf, Row, Call, line, overlong, reading, closing, waiting, rowOf, judge}
 use Rattle.theorems.specs.Occasion.{unaddressed, faultsOfCode, addressed, unused, Listed, nowhere, connector, relay, saysError}
+use Rattle.theorems.proofs.Rows.{by-rows}
 
 -- ---- an error is judged exactly where the first check that holds gives it
 pub occasion : (log : List Deed) (call : Call) (n m p : ℕ) → judge log call ≡ error n m p
@@ -144,14 +145,6 @@ module _ (log : List Deed) (connection room : ℕ) (s : List ℕ) where
   at-one : within 1 1 m ≡ true → number m ≡ 1
   at-one em = only 1 (number m) (within-between 1 1 m em)
 
-  getdevices-fits : Fitting call (table.getdevices log connection s)
-  unfolding table.getdevices
-  getdevices-fits = record { each = (λ e. seventeen, λ e. answers refl) }
-
-  getversion-fits : Fitting call (table.getversion log connection s)
-  unfolding table.getversion
-  getversion-fits = record { each = (λ e. seventeen, λ e. answers refl) }
-
   set-IR-fits : Fitting call (table.set-IR log connection s)
   unfolding table.set-IR
   set-IR-fits =
@@ -260,20 +253,17 @@ module _ (log : List Deed) (connection room : ℕ) (s : List ℕ) where
         each = address-fits 1 1 (λ em ep. (λ e. seventeen, λ e. (λ e. wrong-fits (at-one em) ep refl, λ e. answers refl)));
       }
 
-  fitting : (t : Bool) {x y : Row} → Fitting call x → Fitting call y → Fitting call (cond t x y)
-  fitting t {x} {y} f g = cond-case (Fitting call) t x y (λ e. f) (λ e. g)
-
   request-fits : Fitting call (table.request log connection s)
-  unfolding table.request
   request-fits =
-      fitting (is "getdevices" (field 0)) getdevices-fits
-      (fitting (is "getversion" (field 0)) getversion-fits
-      (fitting (is "set_IR" (field 0)) set-IR-fits
-      (fitting (is "get_IR" (field 0)) get-IR-fits
-      (fitting (is "setstate" (field 0)) setstate-fits
-      (fitting (is "getstate" (field 0)) getstate-fits
-      (fitting (is "sendir" (field 0)) sendir-fits
-      (fitting (is "stopir" (field 0)) stopir-fits (record { each = errs (nowhere refl) }))))))))
+      by-rows log connection s (Fitting call)
+      (λ _ apart. record { each = (λ e. seventeen, λ e. answers (apart .error)) })
+      set-IR-fits
+      get-IR-fits
+      setstate-fits
+      getstate-fits
+      sendir-fits
+      stopir-fits
+      (record { each = errs (nowhere refl) })
 
 row-fits : (log : List Deed) (call : Call) → Fitting call (rowOf log call)
 row-fits log (line connection room s) =

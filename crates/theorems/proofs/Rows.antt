@@ -1,36 +1,47 @@
 -- What holds of every row of the table holds of what a line asks for, and of the line.
 use Prim.Native.Nat.{ℕ, _≤_}
-use mathlib.Core.Bool.{not}
+use mathlib.Core.Path.{_≡_, refl}
+use mathlib.Core.Bool.{Bool, false, cond, not}
 use mathlib.Core.List.{List, [], _∷_}
+use mathlib.Core.Option.{none}
 use borrow.Author.Tests.{ltb-false}
 use lib.Dec.{ltb}
-use lib.ListN.{length}
+use lib.ListN.{length, take}
+use Rattle.laws.specs.Bytes.{bytes}
 use Rattle.laws.specs.Checks.{_⇒_, first, between}
-use Rattle.laws.specs.Lists.{all}
+use Rattle.laws.specs.Lists.{all, same}
+use Rattle.laws.proofs.Choice.{cond-case}
 use Rattle.laws.proofs.Checks.{through, past}
 use Rattle.meaning.specs.Line.{is}
 use Rattle.meaning.specs.Log.{Deed}
-use Rattle.meaning.specs.Table.{Judged, refusal, Row, row, no, line, heard, judge, field, getdevices, getversion, set-IR, get-IR, setstate, getstate, sendir, stopir, request}
+use Rattle.meaning.specs.Table.{replied, Judged, refusal, Row, row, no, line, heard, judge, field, fixed, set-IR, get-IR, setstate, getstate, sendir, stopir, request}
+use Rattle.theorems.specs.Occasion.{saysError}
+
+-- the words of a fixed reply begin neither as an error does nor as the state of a contact or a relay
+pub record Apart (words : List ℕ) : Type 0 where
+  pub error : saysError (replied words none) ≡ false
+  pub contact : same (bytes "state,1") (take 7 words) ≡ false
+  pub relay : same (bytes "state,2") (take 7 words) ≡ false
 
 module _ (log : List Deed) (connection : ℕ) (s : List ℕ) where
-  pub by-rows : (Q : Row → Type 0) → Q (getdevices log connection s) → Q (getversion log connection s) → Q (set-IR log connection s)
+  -- the requests with a fixed reply are one case
+  pub by-rows : (Q : Row → Type 0) → ((words : List ℕ) → Apart words → Q (fixed log connection s words)) → Q (set-IR log connection s)
       → Q (get-IR log connection s) → Q (setstate log connection s) → Q (getstate log connection s) → Q (sendir log connection s)
       → Q (stopir log connection s) → Q (row [] (no 1)) → Q (request log connection s)
   unfolding request
-  by-rows Q devices version sets gets states state sends stops unknown =
+  by-rows Q told sets gets states state sends stops unknown =
       let name = field log connection s 0 in
-      through Q
-      ((is "getdevices" name ⇒ getdevices log connection s)
-      ∷ (is "getversion" name ⇒ getversion log connection s)
-      ∷ (is "set_IR" name ⇒ set-IR log connection s)
-      ∷ (is "get_IR" name ⇒ get-IR log connection s)
-      ∷ (is "setstate" name ⇒ setstate log connection s)
-      ∷ (is "getstate" name ⇒ getstate log connection s)
-      ∷ (is "sendir" name ⇒ sendir log connection s)
-      ∷ (is "stopir" name ⇒ stopir log connection s)
-      ∷ []) (row [] (no 1))
-      (past devices (λ _. past version (λ _. past sets (λ _. past gets (λ _.
-      past states (λ _. past state (λ _. past sends (λ _. past stops (λ _. unknown)))))))))
+      named (is "getdevices" name) (told _ (record { error = refl; contact = refl; relay = refl }))
+      (named (is "getversion" name) (told _ (record { error = refl; contact = refl; relay = refl }))
+      (named (is "set_IR" name) sets
+      (named (is "get_IR" name) gets
+      (named (is "setstate" name) states
+      (named (is "getstate" name) state
+      (named (is "sendir" name) sends
+      (named (is "stopir" name) stops unknown)))))))
+    where
+      named : (t : Bool) {r other : Row} → Q r → Q other → Q (cond t r other)
+      named t {r} {other} here rest = cond-case Q t r other (λ _. here) (λ _. rest)
 
   pub by-line : (P : Judged → Type 0) (room : ℕ) → P (refusal 102) → P (refusal 101) → P (no 15) → P (no 1)
       → (connection ≤ 7 → P (first (request log connection s .checks) (request log connection s .otherwise)))

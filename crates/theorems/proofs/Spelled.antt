@@ -22,7 +22,7 @@ use Rattle.words.specs.declared.Fields.{Fields}
 use Rattle.text.proofs.Reading.{digit-range}
 use Rattle.meaning.specs.Line.{is, number, isNumber, within, isAddress, isCount, isLetter, Reach, opening, on, offDue, off, spelling, Stride, stop, go, stride, Reading, faulty, sound, after, reads, codeIn}
 use Rattle.meaning.specs.Log.{Deed}
-use Rattle.meaning.specs.Table.{Judged, Row, line, judge, request, getdevices, getversion, set-IR, get-IR, setstate, getstate, sendir, stopir}
+use Rattle.meaning.specs.Table.{Judged, Row, line, judge, request, set-IR, get-IR, setstate, getstate, sendir, stopir}
 use Rattle.theorems.proofs.Occasions.{within-between, only}
 use Rattle.theorems.specs.Deeds.{ModeWord, ir, sensor, blaster}
 use Rattle.theorems.specs.Spelled.{fields, at, Heard, Legal, command, IsSendir, devicesTold, versionTold, modeSet, modeTold, relaySet, relayTold, contactTold, commanded, stopped}
@@ -193,14 +193,6 @@ worded (sensor w) = rw w (record { listed = refl; allowed = refl; fair = refl })
 worded {p} (blaster w e) = rw w (record { listed = refl; allowed = rw (eq-eqb p 3 e); fair = refl })
 
 module _ (log : List Deed) (connection : ℕ) (s : List ℕ) where
-  getdevices-row : cut 44 s ≡ bytes "getdevices" ∷ [] → asked log connection s ≡ devicesTold
-  unfolding request getdevices
-  getdevices-row e = rw e
-
-  getversion-row : cut 44 s ≡ bytes "getversion" ∷ [] → asked log connection s ≡ versionTold
-  unfolding request getversion
-  getversion-row e = rw e
-
   module _ {f : List ℕ} {p : ℕ} where
     set-IR-row : {mode : List ℕ} → IsAt f 1 p → Worded p mode → cut 44 s ≡ bytes "set_IR" ∷ f ∷ mode ∷ [] → asked log connection s ≡ modeSet log p mode
     unfolding request set-IR
@@ -244,12 +236,12 @@ module _ (log : List Deed) (connection : ℕ) (s : List ℕ) where
 module _ (log : List Deed) (connection room : ℕ) (h : Heard connection room) where
   -- getdevices, getversion
   pub getdevices-spelled : judge log (line connection room (bytes "getdevices")) ≡ devicesTold
-  getdevices-spelled =
-      spelled log connection room h (bytes "getdevices") [] devicesTold refl (omega arith) (λ s e. getdevices-row log connection s e)
+  unfolding request
+  getdevices-spelled = spelled log connection room h (bytes "getdevices") [] devicesTold refl (omega arith) (λ s e. rw e)
 
   pub getversion-spelled : judge log (line connection room (bytes "getversion")) ≡ versionTold
-  getversion-spelled =
-      spelled log connection room h (bytes "getversion") [] versionTold refl (omega arith) (λ s e. getversion-row log connection s e)
+  unfolding request
+  getversion-spelled = spelled log connection room h (bytes "getversion") [] versionTold refl (omega arith) (λ s e. rw e)
 
   module _ {dm dp : List ℕ} {p : ℕ} (port : Spells dp p) (least : 1 ≤ p) (most : p ≤ connectors) where
     -- set_IR,1:p,mode

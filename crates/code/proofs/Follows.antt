@@ -3,9 +3,10 @@ use Prim.Native.Nat.{ℕ, zero, suc, _+_, _-_, _*_, _≤_, _<_}
 use mathlib.Core.Path.{_≡_, refl, sym, ap, _∙_, subst}
 use mathlib.Core.Bool.{true}
 use mathlib.Core.List.{List, [], _∷_, _++_, append-assoc, append-nil}
+use native.Mathlib.Nat.{add-zero}
 use native.Mathlib.Numerals.{add-one}
 use native.Mathlib.Omega.{arith}
-use borrow.Author.Tests.{lt-leb, ltb-true, ltb-false}
+use borrow.Author.Tests.{lt-ltb, lt-leb, ltb-true, ltb-false}
 use lib.Dec.{ltb}
 use lib.ListN.{length, drop, getD, length-append, drop-of-length-le, List·getD-append}
 use lib.Seq.{sets, length-sets, sets-eq, drop-cons}
@@ -26,7 +27,7 @@ use Rattle.code.proofs.Lettering.{letters-more, learnt-again}
 use Rattle.code.proofs.Nexts.{Sound, next-sound}
 
 -- what stands next is within the limits
-pub next-found : (freq : ℕ) (s : List ℕ) (t : List Pair) (count at : ℕ) (after : After) {x : Next} → nextPair freq count (length t) after s at ≡ x
+next-found : (freq : ℕ) (s : List ℕ) (t : List Pair) (count at : ℕ) (after : After) {x : Next} → nextPair freq count (length t) after s at ≡ x
     → Sound freq count (length t) after x
 next-found freq s t count at after e = subst (Sound freq count (length t) after) e (next-sound freq count (length t) after s at)
 
@@ -105,11 +106,24 @@ module _ {freq : ℕ} {s : List ℕ} where
           same = turn freq s t count at after e (omega arith);
         }
 
--- ---- a letter where a pair may begin
-pub letter-next : (freq n m : ℕ) (after : After) (s : List ℕ) (at : ℕ) {x : Next} → at < length s → isLetter (getD s at 0) ≡ true
-    → letterAt n m (getD s at 0) (at + 1) ≡ x → nextPair freq n m after s at ≡ x
-unfolding nextPair
-letter-next freq n m after s at h l e = rw (lt-leb (length s) at h, l) e
+-- ---- a run of letters, each a byte and a pair
+letter-next : (freq n m : ℕ) (s : List ℕ) (at : ℕ) → at < length s → isLetter (getD s at 0) ≡ true → n < 260 → getD s at 0 - 65 < m
+    → nextPair freq n m Lettering s at ≡ Letter (getD s at 0 - 65) (at + 1)
+unfolding nextPair letterAt
+letter-next freq n m s at h l r k = rw (lt-leb (length s) at h, l, lt-leb 260 n r, lt-ltb (getD s at 0 - 65) m k)
+
+module _ {freq : ℕ} {s : List ℕ} {t : List Pair} {counts : List ℕ} {count at : ℕ} where
+  pub run-none : Follows freq s t t counts counts count at (count + 0) (at + 0) Lettering Lettering
+  run-none = rw (add-zero count, add-zero at) follows-none
+
+  pub run-more : {counts₁ counts₂ : List ℕ} (more : ℕ) → Follows freq s t t counts counts₁ count at (count + more) (at + more) Lettering Lettering
+      → at + more < length s → isLetter (getD s (at + more) 0) ≡ true → count + more < 260 → getD s (at + more) 0 - 65 < length t
+      → length counts₁ ≡ 520 → counts₂ ≡ sets counts₁ (2 * (count + more)) (countsOf (getD t (getD s (at + more) 0 - 65) (pair 0 0) ∷ []))
+      → Follows freq s t t counts counts₂ count at (count + (more + 1)) (at + (more + 1)) Lettering Lettering
+  run-more more a h l r k size e =
+      let pairs : count + (more + 1) ≡ (count + more) + 1 = omega arith in
+      let bytes : at + (more + 1) ≡ (at + more) + 1 = omega arith in
+      rw (pairs, bytes) (follows-then a (follows-letter (letter-next freq (count + more) (length t) s (at + more) h l r k) size e))
 
 -- ---- the pairs that stand in memory, and the letters after them
 pub pairs-stored : (ps : List Pair) (l : List ℕ) → 2 * length ps ≤ length l → (n i : ℕ) → i + n ≡ length ps

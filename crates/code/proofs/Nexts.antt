@@ -1,12 +1,12 @@
 -- Laws of what stands next: there is room for a pair that is read, and a letter that is read has one.
 use Prim.Native.Nat.{ℕ, _+_, _-_, _≤_, _<_}
-use mathlib.Core.Path.{_≡_, refl}
+use mathlib.Core.Path.{_≡_}
 use mathlib.Core.Bool.{true, false}
 use mathlib.Core.List.{List}
 use lib.Dec.{ltb, leb, eqb}
 use lib.ListN.{length, getD}
-use borrow.Author.Tests.{ltb-true, ltb-false, leb-false}
-use Rattle.laws.proofs.Choice.{cond-case, by-test, not-both}
+use borrow.Author.Tests.{ltb-true, ltb-false, leb-true, leb-false}
+use Rattle.laws.proofs.Choice.{cond-case, guard}
 use Rattle.words.specs.Digits.{isDigit}
 use Rattle.text.specs.Number.{numberAt}
 use Rattle.text.specs.declared.number.Number.{Number}
@@ -22,7 +22,11 @@ use Rattle.code.specs.Next.{isLetter, judged, countAt, paired, offAt, af
 
 pub letter-low : {b : ℕ} → isLetter b ≡ true → 65 ≤ b
 unfolding isLetter
-letter-low {b} h = by-test (ltb b 65) (λ e. not-both (rw e at h) refl) (λ e. ltb-false b 65 e)
+letter-low {b} h = ltb-false b 65 (guard (ltb b 65) (leb b 90) h .0)
+
+pub letter-high : {b : ℕ} → isLetter b ≡ true → b ≤ 90
+unfolding isLetter
+letter-high {b} h = leb-true b 90 (guard (ltb b 65) (leb b 90) h .1)
 
 -- a code ends behind a pair
 abbrev pub Ends : After → Type 0

@@ -52,7 +52,23 @@ fn learn_all(letters: Letters, counts: &[u16], from: usize, to: usize) -> Letter
     known
 }
 
-// Reads on behind a letter, as long as there are letters that have a pair.
+// At most so many letters are read on from a place, behind so many pairs: each takes a byte, and room for a pair.
+fn most_letters(s: &[u8], at: usize, count: usize) -> usize
+    ensures { λ r. ⌜ (r ≤ length (now (s .entry)) - at) × (r ≤ 260 - count) ⌝ }
+{
+    if s.len() < at {
+        return 0;
+    }
+    if Code::MOST_PAIRS < count {
+        return 0;
+    }
+    let bytes = s.len() - at;
+    let pairs = Code::MOST_PAIRS - count;
+    if bytes < pairs { bytes } else { pairs }
+}
+
+// Reads on behind a letter, as long as there are letters that have a pair. Its loop has one counter and one bound, reckoned before, as most of
+// a lettered code is read here.
 fn letter_run(
     letters: Letters,
     s: &[u8],
@@ -65,22 +81,25 @@ fn letter_run(
         Lettering Lettering) ⌝ }
 {
     let known = letters.pairs;
-    let mut n = count;
-    let mut i = at;
-    while i < s.len() {
-        let b = s[i];
+    let most = most_letters(s, at, count);
+    let mut more: usize = 0;
+    while more < most {
+        let b = s[at + more];
         if !crate::next::is_letter(b) {
             break;
         }
-        let Next::Letter(j, next) = crate::next::letter_at(n, letters.count, b, i + 1) else {
+        let i = (b - b'A') as usize;
+        if letters.count <= i {
             break;
-        };
-        let p = known[j];
-        put_pair(counts, n, p);
-        n += 1;
-        i = next;
+        }
+        let p = known[i];
+        put_pair(counts, count + more, p);
+        more += 1;
     }
-    Far { count: n, at: i }
+    Far {
+        count: count + more,
+        at: at + more,
+    }
 }
 
 // Reads on behind a spelled pair, as long as the quick reader finds pairs.

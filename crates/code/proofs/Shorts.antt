@@ -1,16 +1,16 @@
 -- Laws of the quick reader of spelled pairs: the loop over at most five digits behind a comma, and a pair of two such counts.
 use Prim.Native.Nat.{ℕ, _+_, _-_, _*_, _≤_, _<_}
-use mathlib.Core.Path.{_≡_, refl, _∙_}
-use mathlib.Core.List.{List, []}
+use mathlib.Core.Path.{_≡_, _∙_}
+use mathlib.Core.List.{List}
 use mathlib.Core.Bool.{true, false}
 use native.Mathlib.Omega.{arith}
 use borrow.Author.Tests.{lt-ltb, le-ltb, lt-leb, ltb-true, ltb-false, ne-eqb}
 use lib.Dec.{ltb}
-use lib.ListN.{length, drop, getD, List·getD-eq-default}
+use lib.ListN.{length, getD}
 use Rattle.laws.proofs.Choice.{by-test}
-use Rattle.laws.proofs.Lists.{leading-stop, leading-done}
+use Rattle.laws.proofs.Lists.{leading-stop}
 use Rattle.words.specs.Digits.{isDigit}
-use Rattle.text.specs.Number.{run, grown, foundNumber, numberAt}
+use Rattle.text.specs.Number.{grown, numberAt}
 use Rattle.text.specs.declared.number.Number.the-variants.{Value}
 use Rattle.text.proofs.Reading.{Reading, reading-start, reading-more, reading-stop, reading-small, digit-range}
 use Rattle.code.specs.declared.next.Count.the-variants.{Good}
@@ -52,29 +52,17 @@ module _ {s : List ℕ} {at v i : ℕ} (r : Shortly s at v i) where
             rw q e);
       }
 
-  -- where there are digits and they end
-  pub shortly-stop : (comma : ℕ) → comma + 1 ≡ at → comma < length s → getD s comma 0 ≡ 44 → run (drop i s) ≡ [] → ShortAt s comma v i
-  shortly-stop comma p b c e h =
+  -- where there are digits and another byte ends them
+  pub shortly-stop : (comma : ℕ) → comma + 1 ≡ at → comma < length s → getD s comma 0 ≡ 44 → i < length s → isDigit (getD s i 0) ≡ false
+      → ShortAt s comma v i
+  shortly-stop comma p b c k e h =
       let n : 1 ≤ i - at = by-test (ltb at i) (λ t. omega (arith, ltb-true at i t)) (λ t. absurd (none (omega (arith, r .low, ltb-false at i t)))) in
-      let m : numberAt s at ≡ Value v i = reading-stop (r .read) e ∙ rw (ne-eqb (i - at) 0 (omega arith), le-ltb 6 (i - at) (omega (arith, r .few))) in
+      let m : numberAt s at ≡ Value v i =
+      reading-stop (r .read) (leading-stop isDigit s i k e) ∙ rw (ne-eqb (i - at) 0 (omega arith), le-ltb 6 (i - at) (omega (arith, r .few))) in
       record { below = b; is-comma = c; digit = rw p (r .digit (omega arith)); number = rw p m }
     where
       none : i - at ≡ 0 → ⊥
       none z = omega (arith, rw z at (r .read .few (omega arith)))
-
-  pub shortly-other : (comma : ℕ) → comma + 1 ≡ at → comma < length s → getD s comma 0 ≡ 44 → i < length s → isDigit (getD s i 0) ≡ false
-      → ShortAt s comma v i
-  shortly-other comma p b c k e = shortly-stop comma p b c (leading-stop isDigit s i k e)
-
-  pub shortly-end : (comma : ℕ) → comma + 1 ≡ at → comma < length s → getD s comma 0 ≡ 44 → length s ≤ i → ShortAt s comma v i
-  shortly-end comma p b c k = shortly-stop comma p b c (leading-done isDigit s i k)
-
--- a comma is a byte of the text
-pub comma-below : (s : List ℕ) (at : ℕ) → getD s at 0 ≡ 44 → at < length s
-comma-below s at e = by-test (ltb at (length s)) (λ t. ltb-true at (length s) t)
-    (λ t.
-    let z = List·getD-eq-default s 0 (ltb-false at (length s) t) in
-    absurd (omega arith))
 
 -- ---- a comma and a pair of two such counts
 

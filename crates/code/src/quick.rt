@@ -21,31 +21,37 @@ fn wide(b: u8) -> u64
     b as u64
 }
 
-// The number of one to five digits behind a comma; 0 for anything else.
+// The number of one to five digits behind a comma; 0 for anything else. A comma in the last six bytes of the text is left to next_pair too: behind
+// any other stand six bytes, five digits and one more, so that the length is asked once and not for each digit.
 fn short_at(s: &[u8], comma: usize) -> Short
     ensures { λ r. ⌜ ShortAt (now (s .entry)) comma (r .value) (r .next) ⌝ }
 {
-    if text::field::byte_at(s, comma) != b',' {
-        return Short {
-            value: 0,
-            next: comma,
-        };
+    let none = Short {
+        value: 0,
+        next: comma,
+    };
+    if s.len() < 7 {
+        return none;
     }
+    if s.len() - 7 < comma {
+        return none;
+    }
+    if s[comma] != b',' {
+        return none;
+    }
+    let end = comma + 6;
     let mut value: u64 = 0;
     let mut i = comma + 1;
-    while i < s.len() {
+    while i < end {
         let b = s[i];
         if !is_digit(b) {
             return Short { value, next: i };
         }
-        if 5 < i - comma {
-            return Short {
-                value: 0,
-                next: comma,
-            };
-        }
         value = value * 10 + (wide(b) - 48);
         i += 1;
+    }
+    if is_digit(s[i]) {
+        return none;
     }
     Short { value, next: i }
 }

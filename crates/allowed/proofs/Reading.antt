@@ -64,10 +64,6 @@ code-smallest-count = promised _ refl (λ _ given r r′ _ _ p q. (one-smallest 
 pub code-is-letter : One code.next.is_letter.ended (λ _. code.next.is_letter.spec)
 code-is-letter = told _ refl (λ _ _ _ _. refl)
 
--- code::next::letter_at
-pub code-letter-at : One code.next.letter_at.ended (λ _. code.next.letter_at.spec)
-code-letter-at = told _ refl (λ _ _ _ _. refl)
-
 -- code::next::next_pair
 pub code-next-pair : One code.next.next_pair.ended (λ _. code.next.next_pair.spec)
 code-next-pair = told _ refl (λ _ _ _ _. refl)

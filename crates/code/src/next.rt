@@ -114,7 +114,7 @@ fn letter_number(b: u8) -> usize
 }
 
 // A pair that the letter b begins, behind so many, where so many letters have a pair.
-pub fn letter_at(pairs: usize, letters: usize, b: u8, next: usize) -> Next
+fn letter_at(pairs: usize, letters: usize, b: u8, next: usize) -> Next
     ensures { λ r. ⌜ r ≡ letterAt pairs letters b next ⌝ }
 {
     if is_full(pairs) {

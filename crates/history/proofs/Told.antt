@@ -26,7 +26,6 @@ use Rattle.meaning.specs.Table.{Answer, replied, answerOf, error, isSame, readi
 use Rattle.request.specs.declared.mode.Mode.{Mode}
 use Rattle.request.specs.declared.Place.{Place}
 use Rattle.request.specs.declared.Fixed.{Fixed}
-use Rattle.request.specs.declared.Fixed.the-variants.{Devices, Version}
 use Rattle.request.specs.declared.Ask.{Ask}
 use Rattle.request.specs.declared.Ask.the-variants as ask
 use Rattle.request.specs.declared.Turn.{Turn}
@@ -95,8 +94,7 @@ stopped-out p o = refl
 -- a reply that is always the same
 fixed-out : (fixed : Fixed) → answerOf (meantFixed fixed) ≡ out (known.replyAlone (reply.Fixed fixed))
 unfolding replyText
-fixed-out Devices = refl
-fixed-out Version = refl
+fixed-out fixed = refl
 
 -- ---- what is asked of a connector
 

@@ -24,8 +24,6 @@ use Rattle.meaning.specs.Log.{Deed, setting, event, changed, started, renewed, 
 use Rattle.meaning.specs.Table.{Judged, deedsOf, isSame, Call, line, overlong, reading, closing, waiting, judge, logged, logOf}
 use Rattle.request.specs.declared.mode.Mode.{Mode}
 use Rattle.request.specs.declared.mode.Mode.the-variants.{Ir, Sensor, IrBlaster}
-use Rattle.request.specs.declared.Fixed.{Fixed}
-use Rattle.request.specs.declared.Fixed.the-variants.{Devices, Version}
 use Rattle.request.specs.declared.Ask.{Ask}
 use Rattle.request.specs.declared.Ask.the-variants as ask
 use Rattle.request.specs.declared.Turn.{Turn}
@@ -42,7 +40,7 @@ use Rattle.connector.specs.declared.Contact.{Contact}
 use Rattle.connector.specs.declared.Contact.the-variants.{Unread, Read}
 use Rattle.connector.specs.Change.{sameMode, owns, ownerLeft}
 use Rattle.connector.specs.Send.{sameFields}
-use Rattle.reads.specs.Meant.{sensorAt, meantCommand, meantRead, meantFixed, meantAsk, meantTurn, meant}
+use Rattle.reads.specs.Meant.{sensorAt, meantCommand, meantRead, meantAsk, meantTurn, meant}
 use Rattle.reads.proofs.Cursor.{modeIn}
 use Rattle.reads.proofs.Rows.{line-is}
 use Rattle.history.proofs.Known as known
@@ -242,11 +240,6 @@ module _ (l : List Deed) (connection : ℕ) (s : List ℕ) (q : ℕ) where
 
 -- ---- what a request makes of what the log shows
 
--- one without an address does nothing
-fixed-still : (fixed : Fixed) → deedsOf (meantFixed fixed) ≡ []
-fixed-still Devices = refl
-fixed-still Version = refl
-
 -- what holds of no deed, and of a relay switched, holds of what is asked of a relay
 turn-case : (P : List Deed → Type 0) (l : List Deed) (q : ℕ) (turn : Turn) → P [] → ((state : ℕ) → P (log.switched q state ∷ []))
     → P (deedsOf (meantTurn l q turn))
@@ -258,7 +251,7 @@ module _ (l : List Deed) (connection : ℕ) (s : List ℕ) where
   pub request-step : (p : ℕ) → Worded l → (r : Request)
       → view (deedsOf (meant l connection s r) ++ l) p ≡ knownAfter (now l) connection s (view l) r p
   request-step p words (request.Fault n place) = refl
-  request-step p words (request.Fixed fixed) = ap (λ (ds : List Deed). view (ds ++ l) p) (fixed-still fixed)
+  request-step p words (request.Fixed fixed) = refl
   request-step p words (request.Connector place ask) =
       by-test (eqb (place .port) p)
       (λ e. rw (e, eqb-true (place .port) p e) (ask-here l connection s p words ask))
@@ -269,7 +262,7 @@ module _ (l : List Deed) (connection : ℕ) (s : List ℕ) where
   -- a request takes no time
   pub now-step : (r : Request) → now (deedsOf (meant l connection s r) ++ l) ≡ now l
   now-step (request.Fault n place) = refl
-  now-step (request.Fixed fixed) = ap (λ (ds : List Deed). now (ds ++ l)) (fixed-still fixed)
+  now-step (request.Fixed fixed) = refl
   now-step (request.Connector place ask) = on-now l (ask-on l connection s (place .port) ask)
   now-step (request.Relay place turn) =
       turn-case (λ (ds : List Deed). now (ds ++ l) ≡ now l) l (place .port) turn refl (λ state. refl)
@@ -283,14 +276,14 @@ module _ (l : List Deed) (connection : ℕ) (s : List ℕ) where
   -- a request makes of each relay what it makes of its state
   pub relay-step : (p : ℕ) (r : Request) → relayOf p (deedsOf (meant l connection s r) ++ l) ≡ relaysAfter (λ q. relayOf q l) r p
   relay-step p (request.Fault n place) = refl
-  relay-step p (request.Fixed fixed) = ap (λ (ds : List Deed). relayOf p (ds ++ l)) (fixed-still fixed)
+  relay-step p (request.Fixed fixed) = refl
   relay-step p (request.Connector place ask) = on-relay l p (ask-on l connection s (place .port) ask)
   relay-step p (request.Relay place turn) = turn-step p (place .port) turn
 
   -- the logged modes stay mode words
   pub mode-step : Worded l → (r : Request) → Worded (deedsOf (meant l connection s r) ++ l)
   mode-step words (request.Fault n place) = words
-  mode-step words (request.Fixed fixed) = rw (fixed-still fixed) words
+  mode-step words (request.Fixed fixed) = words
   mode-step words (request.Connector place ask) = on-mode l (ask-on l connection s (place .port) ask) words
   mode-step words (request.Relay place turn) =
       turn-case (λ (ds : List Deed). Worded (ds ++ l)) l (place .port) turn words (λ state. words)

@@ -46,8 +46,9 @@ use Rattle.request.specs.Mode.{modeWord, mayHave}
 use Rattle.request.specs.Request.{isPrintable, alone, setIrAt, setStateAt, getStateAt, atAddress, addressed, worded, asked, readRequest}
 use Rattle.command.specs.Fields.{capped, fieldsAt}
 use Rattle.command.specs.Read.{codeRead, codeAt, commandAt}
+use Rattle.reply.specs.Reply.{fixedText}
 use Rattle.reads.specs.Readings.{readingOf}
-use Rattle.reads.specs.Meant.{sensorAt, meantCommand, meantRead, meantFixed, meant}
+use Rattle.reads.specs.Meant.{sensorAt, meantCommand, meantRead, meant}
 use Rattle.reads.proofs.Cursor.{word-is, isMode, modeIn, word-back, counts, counts-within, Cursor, start, field-is, next, over, within-is, address-is-at, mode-is}
 use Rattle.reads.proofs.Bytewise.{code-bytewise}
 
@@ -250,9 +251,9 @@ module _ (log : List Deed) (connection : ℕ) (s : List ℕ) where
   first-row r w e =
       sym (alone-row (start s) r) ∙ ap (λ (n : ℕ). makes (alone s n r)) (zero-add (length (field 0)) ∙ ap length (sym e))
 
-  -- a request without an address, whichever it is
+  -- a request without an address, whichever it is, in the words of its reply
   fixed-row : (fixed : Fixed) → fixedWord fixed ≡ field 0
-      → Agrees (table.row (table.more log connection s 1 ∷ []) (meantFixed fixed)) (worded s (Alone fixed))
+      → Agrees (table.fixed log connection s (fixedText fixed)) (worded s (Alone fixed))
   fixed-row fixed e = record { is = first-row (request.Fixed fixed) (fixedWord fixed) e }
 
   -- one word more

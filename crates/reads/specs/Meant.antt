@@ -2,16 +2,15 @@
 -- proofs/Rows.antt says that the two are one.
 use Prim.Native.Nat.{ℕ}
 use mathlib.Core.Bool.{Bool, cond}
-use mathlib.Core.List.{List}
+use mathlib.Core.List.{List, []}
 use Rattle.words.specs.declared.Pair.{Pair}
 use Rattle.words.specs.declared.Fields.{Fields}
 use Rattle.meaning.specs.Line.{is}
 use Rattle.meaning.specs.Log.{Deed, modeOf}
-use Rattle.meaning.specs.Table.{Judged, error}
-use Rattle.theorems.specs.Spelled.{devicesTold, versionTold, modeSet, modeTold, relaySet, relayTold, contactTold, stopped}
+use Rattle.meaning.specs.Table.{Judged, error, reply}
+use Rattle.theorems.specs.Spelled.{modeSet, modeTold, relaySet, relayTold, contactTold, stopped}
 use Rattle.theorems.specs.Spelled as spelled
 use Rattle.request.specs.declared.Fixed.{Fixed}
-use Rattle.request.specs.declared.Fixed.the-variants.{Devices, Version}
 use Rattle.request.specs.declared.Ask.{Ask}
 use Rattle.request.specs.declared.Ask.the-variants.{SetMode, GetMode, GetContact, Send, Stop}
 use Rattle.request.specs.declared.Turn.{Turn}
@@ -20,6 +19,7 @@ use Rattle.request.specs.declared.Request.{Request}
 use Rattle.request.specs.declared.Request.the-variants as request
 use Rattle.request.specs.Mode.{modeWord}
 use Rattle.command.specs.Read.{CommandReading, sent, faulty, commandAt}
+use Rattle.reply.specs.Reply.{fixedText}
 
 abbrev pub sensorAt : ℕ → List Deed → Bool
 sensorAt p log = is "SENSOR" (modeOf p log)
@@ -31,10 +31,9 @@ abbrev pub meantRead : List Deed → ℕ → ℕ → CommandReading → Judged
 meantRead log connection p (faulty n ps) = error n 1 p
 meantRead log connection p (sent f ps) = meantCommand log connection p f ps
 
--- the requests without an address
+-- the requests without an address; that the table has these words too is `request-row` of proofs/Rows.antt
 abbrev pub meantFixed : Fixed → Judged
-meantFixed Devices = devicesTold
-meantFixed Version = versionTold
+meantFixed fixed = reply (fixedText fixed) []
 
 -- those to connector p
 abbrev pub meantAsk : List Deed → ℕ → List ℕ → ℕ → Ask → Judged

@@ -8,14 +8,14 @@ use Rattle.laws.specs.Bytes.{bytes}
 use Rattle.words.specs.Decimal.{decimal}
 use Rattle.text.proofs.Decimals.{decimal-most}
 use Rattle.request.specs.declared.Place.{Place}
-use Rattle.request.specs.declared.Fixed.{Fixed as FixedKind}
-use Rattle.request.specs.declared.Fixed.the-variants.{Devices, Version}
+use Rattle.request.specs.declared.Fixed.the-variants.{Devices}
 use Rattle.request.specs.Mode.{modeWord}
 use Rattle.request.specs.declared.mode.Mode.{Mode as ModeKind}
 use Rattle.request.specs.declared.mode.Mode.the-variants.{Ir, Sensor, IrBlaster}
 use Rattle.reply.specs.declared.Reply.{Reply}
 use Rattle.reply.specs.declared.Reply.the-variants.{Fixed, Error, Mode, State, Complete, Busy, Stopped}
-use Rattle.reply.specs.Reply.{addressText, fixedText, replyText}
+use Rattle.reply.specs.Reply.{addressText, replyText}
+use Rattle.reply.proofs.Fixed.{fixed-proper}
 
 pub devices-66 : length (replyText (Fixed Devices)) ≡ 66
 unfolding replyText
@@ -35,15 +35,10 @@ mode-fits Ir = omega arith
 mode-fits Sensor = omega arith
 mode-fits IrBlaster = omega arith
 
--- a reply that is always the same
-fixed-fits : (fixed : FixedKind) → length (fixedText fixed) ≤ 66
-fixed-fits Devices = omega arith
-fixed-fits Version = omega arith
-
 -- any reply
 pub reply-fits : (r : Reply) → length (replyText r) ≤ 128
 unfolding replyText
-reply-fits (Fixed fixed) = omega (arith, fixed-fits fixed)
+reply-fits (Fixed fixed) = omega (arith, fixed-proper fixed .fits)
 reply-fits (Error number place) = rw length-append (omega (arith, address-fits (bytes "ERR_") place))
 reply-fits (Mode place mode) = rw length-append (omega (arith, address-fits (bytes "IR,") place, mode-fits mode))
 reply-fits (State place state) = rw length-append (omega (arith, address-fits (bytes "state,") place, last-fits state))

@@ -1,2 +1,3 @@
+pub mod Fixed
 pub mod Lengths
 pub mod Endings

@@ -12,6 +12,7 @@ ghost use lib.ListN.{length};
 ghost use lib.Seq.{sets};
 ghost use Rattle.words.specs.declared.Pair.{Pair};
 ghost use Rattle.words.specs.Pairs.{countsOf};
+ghost use Rattle.code.specs.Limits.{mostPairs};
 ghost use Rattle.code.specs.Letters.{lettersOf, held, Kept};
 ghost use Rattle.code.specs.declared.next.After.the-variants.{Spelling, Lettering};
 ghost use Rattle.code.specs.Read.{readCode, ReadInto};
@@ -54,7 +55,7 @@ fn learn_all(letters: Letters, counts: &[u16], from: usize, to: usize) -> Letter
 
 // At most so many letters are read on from a place, behind so many pairs: each takes a byte, and room for a pair.
 fn most_letters(s: &[u8], at: usize, count: usize) -> usize
-    ensures { λ r. ⌜ (r ≤ length (now (s .entry)) - at) × (r ≤ 260 - count) ⌝ }
+    ensures { λ r. ⌜ (r ≤ length (now (s .entry)) - at) × (r ≤ mostPairs - count) ⌝ }
 {
     if s.len() < at {
         return 0;

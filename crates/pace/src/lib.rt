@@ -4,6 +4,7 @@ use code::Code;
 ghost use mathlib.Core.Path.{_≡_};
 ghost use Prim.Native.Nat.{_-_, _*_, _≤_};
 ghost use Rattle.laws.specs.Lists.{numbers};
+ghost use Rattle.code.specs.Limits.{mostPairs};
 ghost use Rattle.meaning.specs.Time.{lasts};
 ghost use Rattle.pace.specs.Pace.{SoundPace, WideCount, periods, micros, ticks, started, endOf, begun, renewed, placeOf, movedTo, passed};
 
@@ -40,7 +41,7 @@ fn wide(count: u16) -> u32
 
 // What the pairs from one to before another last.
 pub fn periods_of(counts: &[u16; Code::MOST_COUNTS], from: usize, to: usize) -> Periods
-    requires { ⌜ (from ≤ to) × (to ≤ 260) ⌝ }
+    requires { ⌜ (from ≤ to) × (to ≤ mostPairs) ⌝ }
     ensures { λ r. ⌜ r ≡ periods (lasts (numbers (now (counts .entry)) (2 * from) (2 * (to - from)))) ⌝ }
 {
     let end = 2 * to;

@@ -8,6 +8,7 @@ ghost use mathlib.Core.Path.{_≡_};
 ghost use Prim.Native.Nat.{_<_};
 ghost use lib.ListN.{getD};
 ghost use Rattle.words.specs.Pairs.{pair};
+ghost use Rattle.code.specs.Limits.{mostPairs};
 ghost use Rattle.reader.specs.Hands.{textAt, movedTo, freshProgress, pairHanded, handed, handedBy};
 
 pub struct CodeText<'a> {
@@ -53,7 +54,7 @@ impl Progress {
 
 // A pair is handed out, and reading goes on behind it.
 fn pair_handed(progress: Progress, p: Pair, letters: Letters, after: After, next: usize) -> Handed
-    requires { ⌜ progress .count < 260 ⌝ }
+    requires { ⌜ progress .count < mostPairs ⌝ }
     ensures { λ r. ⌜ r ≡ pairHanded progress p letters after next ⌝ }
 {
     let later = Progress {

@@ -10,6 +10,7 @@ ghost use Prim.Native.Nat.{_+_, _*_, _≤_};
 ghost use lib.ListN.{length};
 ghost use Rattle.laws.specs.Put.{Put};
 ghost use Rattle.words.specs.Pairs.{pair};
+ghost use Rattle.code.specs.Limits.{mostPairs};
 ghost use Rattle.code.specs.Follows.{pairsAt};
 ghost use Rattle.writer.specs.CodeText.{inUse, comma, spelling, codeText};
 
@@ -56,7 +57,7 @@ pub fn put_code(
     count: usize,
     counts: &[u16; Code::MOST_COUNTS],
 ) -> usize
-    requires { ⌜ (count ≤ 260) × (at + 14 * count ≤ length (now buf)) ⌝ }
+    requires { ⌜ (count ≤ mostPairs) × (at + 14 * count ≤ length (now buf)) ⌝ }
     ensures { λ r. ⌜ Put (now (buf .entry)) at (codeText form (pairsAt (now (counts .entry)) 0 count)) (now (buf .exit)) r ⌝ }
 {
     let mut letters = Letters::none();

@@ -21,7 +21,10 @@ learn-requires : tie.Need-learn-requires
 learn-requires c κs = search needs
 
 pair-handed-requires : tie.Need-pair-handed-requires
-pair-handed-requires c κs = standing-sound (c .before .before .before .before .before .before .before .args .progress) _ _ (sym (c .before .before .before .before .next-pair .ensures) ∙ c .before .before .on .given .1) .0
+pair-handed-requires c κs =
+    let next-pair = c .before .before .before .before in
+    let start = next-pair .before .before .before in
+    standing-sound (start .args .progress) _ _ (sym (next-pair .next-pair .ensures) ∙ c .before .before .on .given .1) .0
 
 enum-known-i : tie.Need-enum-known-i
 enum-known-i c = search needs
@@ -30,7 +33,10 @@ pair-of-requires : tie.Need-pair-of-requires
 pair-of-requires c κs = search needs
 
 pair-handed-requires-2 : tie.Need-pair-handed-requires-2
-pair-handed-requires-2 c κs = standing-sound (c .before .before .before .before .before .before .before .args .progress) _ _ (sym (c .before .before .before .before .next-pair .ensures) ∙ c .before .before .i .given .1) .0
+pair-handed-requires-2 c κs =
+    let next-pair = c .before .before .before .before in
+    let start = next-pair .before .before .before in
+    standing-sound (start .args .progress) _ _ (sym (next-pair .next-pair .ensures) ∙ c .before .before .i .given .1) .0
 
 returns : tie.Need-returns
 returns c = sym (handed-is _ _ _ (sym (c .before .before .next-pair .ensures) ∙ c .enum-told .given .1))

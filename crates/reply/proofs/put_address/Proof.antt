@@ -19,16 +19,22 @@ put-word-requires-2 : tie.Need-put-word-requires-2
 put-word-requires-2 c κs = omega (arith, decimal-most (c .before .before .before .before .before .before .before .before .before .before .before .before .args .place .m))
 
 put-number-requires-2 : tie.Need-put-number-requires-2
-put-number-requires-2 c κs = omega (arith, decimal-most (c .before .before .before .before .before .before .before .before .before .before .before .before .before .before .before .before .args .place .m), decimal-most (c .before .before .before .before .before .before .before .before .before .before .before .before .before .before .before .before .args .place .port))
+put-number-requires-2 c κs =
+    let start = c .before .before .before .before .before .before .before .before .before .before .before .before .before .before .before .before in
+    omega (arith, decimal-most (start .args .place .m), decimal-most (start .args .place .port))
 
 same-length : tie.Need-same-length
 same-length c = search needs
 
 returns : tie.Need-returns
-returns c = (
-  then (then (then (c .before .before .before .before .before .before .before .before .before .before .before .before .before .before .before .put-word .ensures) (c .before .before .before .before .before .before .before .before .before .before .before .put-number .ensures)) (c .before .before .before .before .before .before .put-word2 .ensures)) (c .before .before .put-number2 .ensures),
-  omega (arith, decimal-most (c .before .before .before .before .before .before .before .before .before .before .before .before .before .before .before .before .before .before .before .args .place .m), decimal-most (c .before .before .before .before .before .before .before .before .before .before .before .before .before .before .before .before .before .before .before .args .place .port)),
-)
+returns c =
+    let put-word2 = c .before .before .before .before .before .before in
+    let put-number = put-word2 .before .before .before .before .before in
+    let put-word = put-number .before .before .before .before in
+    let start = put-word .before .before .before .before in (
+      then (then (then (put-word .put-word .ensures) (put-number .put-number .ensures)) (put-word2 .put-word2 .ensures)) (c .before .before .put-number2 .ensures),
+      omega (arith, decimal-most (start .args .place .m), decimal-most (start .args .place .port)),
+    )
 
 pub put-address-spec : {M : Type 1} → statement M
 put-address-spec =

@@ -25,7 +25,10 @@ same-length : tie.Need-same-length
 same-length c = search needs
 
 returns : tie.Need-returns
-returns c = then (then (c .before .before .before .before .before .before .before .before .before .before .before .put-word .ensures) (c .before .before .before .before .before .before .before .put-number .ensures)) (c .before .before .put-word2 .ensures)
+returns c =
+    let put-number = c .before .before .before .before .before .before .before in
+    let put-word = put-number .before .before .before .before in
+    then (then (put-word .put-word .ensures) (put-number .put-number .ensures)) (c .before .before .put-word2 .ensures)
 
 pub put-last-spec : {M : Type 1} → statement M
 put-last-spec =

@@ -98,42 +98,60 @@ same-length-2 c = search needs
 
 returns-2 : tie.Need-returns-2
 unfolding replyText
-returns-2 c = rw (c .before .before .before .before .before .before .before .before .before .before .reply2 .given .1) (then (c .before .before .before .before .before .before .put-address .ensures .0) (c .before .before .put-error-number .ensures))
+returns-2 c =
+    let put-address = c .before .before .before .before .before .before in
+    let reply2 = put-address .before .before .before .before in
+    rw (reply2 .reply2 .given .1) (then (put-address .put-address .ensures .0) (c .before .before .put-error-number .ensures))
 
 same-length-3 : tie.Need-same-length-3
 same-length-3 c = search needs
 
 returns-3 : tie.Need-returns-3
 unfolding replyText
-returns-3 c = rw (c .before .before .before .before .before .before .before .before .before .before .reply3 .given .1) (then (c .before .before .before .before .before .before .put-address2 .ensures .0) (c .before .before .put-mode .ensures))
+returns-3 c =
+    let put-address2 = c .before .before .before .before .before .before in
+    let reply3 = put-address2 .before .before .before .before in
+    rw (reply3 .reply3 .given .1) (then (put-address2 .put-address2 .ensures .0) (c .before .before .put-mode .ensures))
 
 same-length-4 : tie.Need-same-length-4
 same-length-4 c = search needs
 
 returns-4 : tie.Need-returns-4
 unfolding replyText
-returns-4 c = rw (c .before .before .before .before .before .before .before .before .before .before .reply4 .given .1) (then (c .before .before .before .before .before .before .put-address3 .ensures .0) (c .before .before .put-last .ensures))
+returns-4 c =
+    let put-address3 = c .before .before .before .before .before .before in
+    let reply4 = put-address3 .before .before .before .before in
+    rw (reply4 .reply4 .given .1) (then (put-address3 .put-address3 .ensures .0) (c .before .before .put-last .ensures))
 
 same-length-5 : tie.Need-same-length-5
 same-length-5 c = search needs
 
 returns-5 : tie.Need-returns-5
 unfolding replyText
-returns-5 c = rw (c .before .before .before .before .before .before .before .before .before .before .reply5 .given .1) (then (c .before .before .before .before .before .before .put-address4 .ensures .0) (c .before .before .put-last2 .ensures))
+returns-5 c =
+    let put-address4 = c .before .before .before .before .before .before in
+    let reply5 = put-address4 .before .before .before .before in
+    rw (reply5 .reply5 .given .1) (then (put-address4 .put-address4 .ensures .0) (c .before .before .put-last2 .ensures))
 
 same-length-6 : tie.Need-same-length-6
 same-length-6 c = search needs
 
 returns-6 : tie.Need-returns-6
 unfolding replyText
-returns-6 c = rw (c .before .before .before .before .before .before .before .before .before .before .reply6 .given .1) (then (c .before .before .before .before .before .before .put-address5 .ensures .0) (c .before .before .put-last3 .ensures))
+returns-6 c =
+    let put-address5 = c .before .before .before .before .before .before in
+    let reply6 = put-address5 .before .before .before .before in
+    rw (reply6 .reply6 .given .1) (then (put-address5 .put-address5 .ensures .0) (c .before .before .put-last3 .ensures))
 
 same-length-7 : tie.Need-same-length-7
 same-length-7 c = search needs
 
 returns-7 : tie.Need-returns-7
 unfolding replyText
-returns-7 c = rw (c .before .before .before .before .before .before .before .before .before .before .before .reply7 .given .1) (then (c .before .before .before .before .before .before .before .put-address6 .ensures .0) (c .before .before .put-word .ensures))
+returns-7 c =
+    let put-address6 = c .before .before .before .before .before .before .before in
+    let reply7 = put-address6 .before .before .before .before in
+    rw (reply7 .reply7 .given .1) (then (put-address6 .put-address6 .ensures .0) (c .before .before .put-word .ensures))
 
 pub put-reply-spec : {M : Type 1} → statement M
 put-reply-spec =

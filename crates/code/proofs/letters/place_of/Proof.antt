@@ -37,7 +37,11 @@ same-requires : tie.Need-same-requires Inv-loop μ-loop
 same-requires c κs = search needs
 
 returns-2 : tie.Need-returns-2 Inv-loop μ-loop
-returns-2 c = place-found _ _ _ _ (c .before .before .before .before .before .loop .inv) (c .before .before .before .before .loop-test .taken) (omega (arith, long (c .before .before .before .before .before .before .before))) (sym (c .before .same .ensures) ∙ c .if2 .taken)
+returns-2 c =
+    let loop-test = c .before .before .before .before in
+    let loop = loop-test .before in
+    let start = loop .before .before in
+    place-found _ _ _ _ (loop .loop .inv) (loop-test .loop-test .taken) (omega (arith, long start)) (sym (c .before .same .ensures) ∙ c .if2 .taken)
 
 add-j : tie.Need-add-j Inv-loop μ-loop
 add-j c = search needs
@@ -46,7 +50,11 @@ loop-less : tie.Need-loop-less Inv-loop μ-loop
 loop-less c = search needs
 
 loop-again : tie.Need-loop-again Inv-loop μ-loop
-loop-again c = place-other _ _ _ _ (c .before .before .before .before .before .loop .inv) (c .before .before .before .before .loop-test .taken) (omega (arith, long (c .before .before .before .before .before .before .before))) (sym (c .before .same .ensures) ∙ c .if2 .left)
+loop-again c =
+    let loop-test = c .before .before .before .before in
+    let loop = loop-test .before in
+    let start = loop .before .before in
+    place-other _ _ _ _ (loop .loop .inv) (loop-test .loop-test .taken) (omega (arith, long start)) (sym (c .before .same .ensures) ∙ c .if2 .left)
 
 returns-3 : tie.Need-returns-3 Inv-loop μ-loop
 returns-3 c = place-end _ _ _ _ (c .before .loop .inv) (c .loop-test .left)

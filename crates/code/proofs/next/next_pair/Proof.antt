@@ -38,7 +38,11 @@ enum-told-2 c = search needs
 
 returns-3 : tie.Need-returns-3
 unfolding nextPair
-returns-3 c = rw (lt-leb _ _ (c .before .before .before .before .before .before .if1 .left), sym (c .before .before .before .before .is-letter .ensures) ∙ c .before .before .before .if2 .left, c .before .enum-told2 .given .1, ne-eqb _ _ (c .if3 .taken))
+returns-3 c =
+    let if2 = c .before .before .before in
+    let is-letter = if2 .before in
+    let if1 = is-letter .before .before in
+    rw (lt-leb _ _ (if1 .if1 .left), sym (is-letter .is-letter .ensures) ∙ if2 .if2 .left, c .before .enum-told2 .given .1, ne-eqb _ _ (c .if3 .taken))
 
 add-begin : tie.Need-add-begin
 add-begin c = search needs

@@ -26,11 +26,20 @@ enum-known-off c = search needs
 
 returns-2 : tie.Need-returns-2
 unfolding offAt
-returns-2 c = rw (← c .before .before .before .before .before .byte-at .ensures, sym (c .before .before .before .before .is-letter .ensures) ∙ c .before .before .before .if1 .left, sym (c .before .before .count-at .ensures) ∙ c .enum-told .given .1)
+returns-2 c =
+    let if1 = c .before .before .before in
+    let is-letter = if1 .before in
+    let byte-at = is-letter .before in
+    rw (← byte-at .byte-at .ensures, sym (is-letter .is-letter .ensures) ∙ if1 .if1 .left, sym (c .before .before .count-at .ensures) ∙ c .enum-told .given .1)
 
 returns-3 : tie.Need-returns-3
 unfolding offAt
-returns-3 c = rw (← c .before .before .before .before .before .before .byte-at .ensures, sym (c .before .before .before .before .before .is-letter .ensures) ∙ c .before .before .before .before .if1 .left, sym (c .before .before .before .count-at .ensures) ∙ c .before .off .given .1)
+returns-3 c =
+    let count-at = c .before .before .before in
+    let if1 = count-at .before in
+    let is-letter = if1 .before in
+    let byte-at = is-letter .before in
+    rw (← byte-at .byte-at .ensures, sym (is-letter .is-letter .ensures) ∙ if1 .if1 .left, sym (count-at .count-at .ensures) ∙ c .before .off .given .1)
 
 pub off-at-spec : {M : Type 1} → statement M
 off-at-spec =

@@ -30,7 +30,11 @@ returns-2 c = rw (sym (c .before .before .before .before .is-full .ensures) ∙ 
 
 returns-3 : tie.Need-returns-3
 unfolding spelledAt
-returns-3 c = rw (sym (c .before .before .before .before .before .before .is-full .ensures) ∙ c .before .before .before .before .before .if1 .left, sym (c .before .before .before .before .count-at .ensures) ∙ c .before .before .on .given .1) (c .after-on .ensures)
+returns-3 c =
+    let count-at = c .before .before .before .before in
+    let if1 = count-at .before in
+    let is-full = if1 .before in
+    rw (sym (is-full .is-full .ensures) ∙ if1 .if1 .left, sym (count-at .count-at .ensures) ∙ c .before .before .on .given .1) (c .after-on .ensures)
 
 pub spelled-at-spec : {M : Type 1} → statement M
 spelled-at-spec =

@@ -28,19 +28,28 @@ returns-2 : tie.Need-returns-2
 returns-2 c = search needs
 
 cast-t8 : tie.Need-cast-t8
-cast-t8 c = omega (arith, legal-is (sym (c .before .before .before .before .before .is-legal .ensures) ∙ not-false _ (c .before .before .before .before .if1 .left)) .high)
+cast-t8 c =
+    let if1 = c .before .before .before .before in
+    let is-legal = if1 .before in
+    omega (arith, legal-is (sym (is-legal .is-legal .ensures) ∙ not-false _ (if1 .if1 .left)) .high)
 
 cast-t9 : tie.Need-cast-t9
 cast-t9 c = omega (arith, legal-is (sym (c .before .before .before .is-legal2 .ensures) ∙ not-false _ (c .before .before .if2 .left)) .high)
 
 returns-3 : tie.Need-returns-3
 returns-3 c =
-    let a = c .before .before .before .before .before .before .before .before .before .args in
-    let first = c .before .before .before .before .before .before .before .short-at in
-    let second = c .before .before .before .before .short-at2 in
+    let is-legal2 = c .before .before .before in
+    let short-at2 = is-legal2 .before in
+    let if1 = short-at2 .before in
+    let is-legal = if1 .before in
+    let short-at = is-legal .before in
+    let start = short-at .before .before in
+    let a = start .args in
+    let first = short-at .short-at in
+    let second = short-at2 .short-at2 in
     quick-is (a .freq) (now (a .s)) (a .at) (first .result .value) (first .result .next) (second .result .value) (second .result .next) (first .ensures)
-    (sym (c .before .before .before .before .before .before .is-legal .ensures) ∙ not-false _ (c .before .before .before .before .before .if1 .left)) (second .ensures)
-    (sym (c .before .before .before .is-legal2 .ensures) ∙ not-false _ (c .before .before .if2 .left))
+    (sym (is-legal .is-legal .ensures) ∙ not-false _ (if1 .if1 .left)) (second .ensures)
+    (sym (is-legal2 .is-legal2 .ensures) ∙ not-false _ (c .before .before .if2 .left))
 
 pub quick-at-spec : {M : Type 1} → statement M
 quick-at-spec =

@@ -41,8 +41,11 @@ learn-all-requires c κs =
 
 loop-less : tie.Need-loop-less Inv-loop μ-loop
 loop-less c =
-    let behind : c .before .before .before .before .before .loop .seen < c .before .before .before .before .before .loop .count = lagging _ _ _ _ (sym (c .before .before .before .before .lags .ensures) ∙ c .before .before .before .if1 .taken) in
-    omega (arith, c .before .before .before .before .before .loop .inv .some)
+    let if1 = c .before .before .before in
+    let the-lags = if1 .before in
+    let loop = the-lags .before in
+    let behind : loop .loop .seen < loop .loop .count = lagging _ _ _ _ (sym (the-lags .lags .ensures) ∙ if1 .if1 .taken) in
+    omega (arith, loop .loop .inv .some)
 
 loop-again : tie.Need-loop-again Inv-loop μ-loop
 loop-again c =
@@ -74,8 +77,11 @@ enum-known-on c = search needs
 
 put-pair-requires : tie.Need-put-pair-requires Inv-loop μ-loop
 put-pair-requires c κs =
-    let inv = c .before .before .before .before .before .before .before .loop .inv in
-    let room = going-sound inv (up (c .before .before .before .before .before)) (sym (c .before .before .before .before .next-pair .ensures) ∙ c .before .before .on .given .1) .0 in
+    let next-pair = c .before .before .before .before in
+    let if1 = next-pair .before in
+    let loop = if1 .before .before in
+    let inv = loop .loop .inv in
+    let room = going-sound inv (up if1) (sym (next-pair .next-pair .ensures) ∙ c .before .before .on .given .1) .0 in
     search needs
 
 add-spelled-run : tie.Need-add-spelled-run Inv-loop μ-loop
@@ -86,34 +92,52 @@ spelled-run-requires c κs = search needs
 
 loop-less-2 : tie.Need-loop-less-2 Inv-loop μ-loop
 loop-less-2 c =
-    let inv = c .before .before .before .before .before .before .before .before .before .before .loop .inv in
-    let room = going-sound inv (up (c .before .before .before .before .before .before .before .before)) (sym (c .before .before .before .before .before .before .before .next-pair .ensures) ∙ c .before .before .before .before .before .on .given .1) .0 in
+    let on = c .before .before .before .before .before in
+    let next-pair = on .before .before in
+    let if1 = next-pair .before in
+    let loop = if1 .before .before in
+    let inv = loop .loop .inv in
+    let room = going-sound inv (up if1) (sym (next-pair .next-pair .ensures) ∙ on .on .given .1) .0 in
     let run = c .spelled-run .ensures [] .1 in
     omega (arith, run .room (omega arith), run .counted, inv .some)
 
 loop-again-2 : tie.Need-loop-again-2 Inv-loop μ-loop
 loop-again-2 c =
-    let inv = c .before .before .before .before .before .before .before .before .before .before .loop .inv in
     let size : length (c .before .before .before .before .before .before .before .before .before .before .loop .counts) ≡ 520 = search needs in
-    going-spelled inv (up (c .before .before .before .before .before .before .before .before)) (sym (c .before .before .before .before .before .before .before .next-pair .ensures) ∙ c .before .before .before .before .before .on .given .1) size (c .before .before .put-pair .ensures) (c .spelled-run .ensures)
+    let on = c .before .before .before .before .before in
+    let next-pair = on .before .before in
+    let if1 = next-pair .before in
+    let loop = if1 .before .before in
+    let inv = loop .loop .inv in
+    going-spelled inv (up if1) (sym (next-pair .next-pair .ensures) ∙ on .on .given .1) size (c .before .before .put-pair .ensures) (c .spelled-run .ensures)
 
 enum-known-i : tie.Need-enum-known-i Inv-loop μ-loop
 enum-known-i c = search needs
 
 mul-p : tie.Need-mul-p Inv-loop μ-loop
 mul-p c =
-    let inv = c .before .before .before .before .before .before .before .loop .inv in
-    omega (arith, going-sound inv (up (c .before .before .before .before .before)) (sym (c .before .before .before .before .next-pair .ensures) ∙ c .before .before .i .given .1) .1, inv .few)
+    let next-pair = c .before .before .before .before in
+    let if1 = next-pair .before in
+    let loop = if1 .before .before in
+    let inv = loop .loop .inv in
+    omega (arith, going-sound inv (up if1) (sym (next-pair .next-pair .ensures) ∙ c .before .before .i .given .1) .1, inv .few)
 
 array-copy-out-p : tie.Need-array-copy-out-p Inv-loop μ-loop
 array-copy-out-p c =
-    let inv = c .before .before .before .before .before .before .before .loop .inv in
-    omega (arith, going-sound inv (up (c .before .before .before .before .before)) (sym (c .before .before .before .before .next-pair .ensures) ∙ c .before .before .i .given .1) .1, inv .few)
+    let next-pair = c .before .before .before .before in
+    let if1 = next-pair .before in
+    let loop = if1 .before .before in
+    let inv = loop .loop .inv in
+    omega (arith, going-sound inv (up if1) (sym (next-pair .next-pair .ensures) ∙ c .before .before .i .given .1) .1, inv .few)
 
 put-pair-requires-2 : tie.Need-put-pair-requires-2 Inv-loop μ-loop
 put-pair-requires-2 c κs =
-    let inv = c .before .before .before .before .before .before .before .before .before .loop .inv in
-    let room = going-sound inv (up (c .before .before .before .before .before .before .before)) (sym (c .before .before .before .before .before .before .next-pair .ensures) ∙ c .before .before .before .before .i .given .1) .0 in
+    let i = c .before .before .before .before in
+    let next-pair = i .before .before in
+    let if1 = next-pair .before in
+    let loop = if1 .before .before in
+    let inv = loop .loop .inv in
+    let room = going-sound inv (up if1) (sym (next-pair .next-pair .ensures) ∙ i .i .given .1) .0 in
     search needs
 
 add-letter-run : tie.Need-add-letter-run Inv-loop μ-loop
@@ -124,16 +148,24 @@ letter-run-requires c κs = c .before .before .before .before .before .before .b
 
 loop-less-3 : tie.Need-loop-less-3 Inv-loop μ-loop
 loop-less-3 c =
-    let inv = c .before .before .before .before .before .before .before .before .before .before .before .before .loop .inv in
-    let room = going-sound inv (up (c .before .before .before .before .before .before .before .before .before .before)) (sym (c .before .before .before .before .before .before .before .before .before .next-pair .ensures) ∙ c .before .before .before .before .before .before .before .i .given .1) .0 in
+    let i = c .before .before .before .before .before .before .before in
+    let next-pair = i .before .before in
+    let if1 = next-pair .before in
+    let loop = if1 .before .before in
+    let inv = loop .loop .inv in
+    let room = going-sound inv (up if1) (sym (next-pair .next-pair .ensures) ∙ i .i .given .1) .0 in
     let run = c .letter-run .ensures 0 in
     omega (arith, run .room (omega arith), run .counted)
 
 loop-again-3 : tie.Need-loop-again-3 Inv-loop μ-loop
 loop-again-3 c =
-    let inv = c .before .before .before .before .before .before .before .before .before .before .before .before .loop .inv in
     let size : length (c .before .before .before .before .before .before .before .before .before .before .before .before .loop .counts) ≡ 520 = search needs in
-    going-letter inv (up (c .before .before .before .before .before .before .before .before .before .before)) (sym (c .before .before .before .before .before .before .before .before .before .next-pair .ensures) ∙ c .before .before .before .before .before .before .before .i .given .1) size (c .before .before .put-pair2 .ensures) (c .letter-run .ensures)
+    let i = c .before .before .before .before .before .before .before in
+    let next-pair = i .before .before in
+    let if1 = next-pair .before in
+    let loop = if1 .before .before in
+    let inv = loop .loop .inv in
+    going-letter inv (up if1) (sym (next-pair .next-pair .ensures) ∙ i .i .given .1) size (c .before .before .put-pair2 .ensures) (c .letter-run .ensures)
 
 pub read-code-spec : {M : Type 1} → statement M
 read-code-spec =

@@ -41,11 +41,15 @@ loop-less c = search needs
 
 loop-again : tie.Need-loop-again Inv-loop μ-loop
 loop-again c =
+    let on = c .before .before .before in
+    let quick-at = on .before .before in
+    let loop-test = quick-at .before in
+    let loop = loop-test .before in
     λ t.
-    let before = c .before .before .before .before .before .before .before .loop .inv t in
-    let quick = subst (QuickAt _ _ _) (c .before .before .before .on .given .1) (c .before .before .before .before .before .quick-at .ensures) in
-    let size : length (c .before .before .before .before .before .before .before .loop .counts) ≡ 520 = search needs in
-    (_, follows-then (before .1) (follows-spelled (quick _ (length (before .0)) (c .before .before .before .before .before .before .loop-test .taken)) size (c .put-pair .ensures)))
+    let before = loop .loop .inv t in
+    let quick = subst (QuickAt _ _ _) (on .on .given .1) (quick-at .quick-at .ensures) in
+    let size : length (loop .loop .counts) ≡ 520 = search needs in
+    (_, follows-then (before .1) (follows-spelled (quick _ (length (before .0)) (loop-test .loop-test .taken)) size (c .put-pair .ensures)))
 
 returns : tie.Need-returns Inv-loop μ-loop
 returns c = c .before .loop .inv

@@ -96,9 +96,11 @@ returns-4 c = rw (offset (c .before .before .before), sym (c .before .before .fi
 
 returns-5 : tie.Need-returns-5
 returns-5 c =
+    let field-within4 = c .before .before .before .before in
+    let after-comma3 = field-within4 .before in
     rw (
-      offset (c .before .before .before .before .before),
-      sym (c .before .before .before .before .field-within4 .ensures) ∙ c .before .before .offset .given .1,
+      offset after-comma3,
+      sym (field-within4 .field-within4 .ensures) ∙ c .before .before .offset .given .1,
       eq-eqb _ _ (c .if1 .taken),
     )
 
@@ -130,9 +132,12 @@ after-comma-requires-4 c κs = search needs
 
 returns-6 : tie.Need-returns-6
 returns-6 c =
+    let the-offset = c .before .before .before .before in
+    let field-within4 = the-offset .before .before in
+    let after-comma3 = field-within4 .before in
     rw (
-      offset (c .before .before .before .before .before .before .before),
-      sym (c .before .before .before .before .before .before .field-within4 .ensures) ∙ c .before .before .before .before .offset .given .1,
+      offset after-comma3,
+      sym (field-within4 .field-within4 .ensures) ∙ the-offset .offset .given .1,
       ne-eqb _ _ (c .before .before .if1 .left),
       ← c .before .capped .ensures,
       ← c .after-comma4 .ensures,

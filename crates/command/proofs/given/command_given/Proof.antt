@@ -32,14 +32,25 @@ counts-within-requires c κs = search needs
 
 returns-3 : tie.Need-returns-3
 unfolding commandGiven
-returns-3 c = rw (sym (c .before .before .before .before .before .before .before .place-within .ensures) ∙ not-false _ (c .before .before .before .before .before .before .if1 .left), sym (c .before .before .before .before .given-within .ensures) ∙ not-false _ (c .before .before .before .if2 .left), sym (c .before .counts-within .ensures) ∙ not-true _ (c .if3 .taken)) (nothing-found _ _)
+returns-3 c =
+    let if2 = c .before .before .before in
+    let given-within = if2 .before in
+    let if1 = given-within .before .before in
+    let place-within = if1 .before in
+    rw (sym (place-within .place-within .ensures) ∙ not-false _ (if1 .if1 .left), sym (given-within .given-within .ensures) ∙ not-false _ (if2 .if2 .left), sym (c .before .counts-within .ensures) ∙ not-true _ (c .if3 .taken)) (nothing-found _ _)
 
 cast-if4 : tie.Need-cast-if4
 cast-if4 c = search needs
 
 returns-4 : tie.Need-returns-4
 unfolding commandGiven
-returns-4 c = rw (sym (c .before .before .before .before .before .before .before .before .before .place-within .ensures) ∙ not-false _ (c .before .before .before .before .before .before .before .before .if1 .left), sym (c .before .before .before .before .before .before .given-within .ensures) ∙ not-false _ (c .before .before .before .before .before .if2 .left), sym (c .before .before .before .counts-within .ensures) ∙ not-false _ (c .before .before .if3 .left), le-leb _ _ (c .if4 .taken)) (nothing-found _ _)
+returns-4 c =
+    let counts-within = c .before .before .before in
+    let if2 = counts-within .before .before in
+    let given-within = if2 .before in
+    let if1 = given-within .before .before in
+    let place-within = if1 .before in
+    rw (sym (place-within .place-within .ensures) ∙ not-false _ (if1 .if1 .left), sym (given-within .given-within .ensures) ∙ not-false _ (if2 .if2 .left), sym (counts-within .counts-within .ensures) ∙ not-false _ (c .before .before .if3 .left), le-leb _ _ (c .if4 .taken)) (nothing-found _ _)
 
 put-counts-requires : tie.Need-put-counts-requires
 put-counts-requires c κs =
@@ -53,9 +64,16 @@ taken-requires c κs = search needs
 returns-5 : tie.Need-returns-5
 unfolding commandGiven
 returns-5 c =
-    let within = counts-in _ _ (sym (c .before .before .before .before .before .before .counts-within .ensures) ∙ not-false _ (c .before .before .before .before .before .if3 .left)) in
     let size : length (now (c .before .before .before .before .before .before .before .before .before .before .before .before .before .before .before .args .counts)) ≡ 520 = search needs in
-    rw (sym (c .before .before .before .before .before .before .before .before .before .before .before .before .place-within .ensures) ∙ not-false _ (c .before .before .before .before .before .before .before .before .before .before .before .if1 .left), sym (c .before .before .before .before .before .before .before .before .before .given-within .ensures) ∙ not-false _ (c .before .before .before .before .before .before .before .before .if2 .left), sym (c .before .before .before .before .before .before .counts-within .ensures) ∙ not-false _ (c .before .before .before .before .before .if3 .left), lt-leb _ _ (c .before .before .before .if4 .left), c .taken .ensures)
+    let if4 = c .before .before .before in
+    let if3 = if4 .before .before in
+    let counts-within = if3 .before in
+    let if2 = counts-within .before .before in
+    let given-within = if2 .before in
+    let if1 = given-within .before .before in
+    let place-within = if1 .before in
+    let within = counts-in _ _ (sym (counts-within .counts-within .ensures) ∙ not-false _ (if3 .if3 .left)) in
+    rw (sym (place-within .place-within .ensures) ∙ not-false _ (if1 .if1 .left), sym (given-within .given-within .ensures) ∙ not-false _ (if2 .if2 .left), sym (counts-within .counts-within .ensures) ∙ not-false _ (if3 .if3 .left), lt-leb _ _ (if4 .if4 .left), c .taken .ensures)
     (given-into _ _ _ _ within size (c .before .put-counts .ensures))
 
 pub command-given-spec : {M : Type 1} → statement M

@@ -45,9 +45,15 @@ is-legal-requires c κs = search needs
 returns-4 : tie.Need-returns-4 Inv-loop μ-loop
 unfolding countsWithin
 returns-4 c =
-    let a = c .before .before .before .before .before .before .before .before .before .args in
-    let stopped = all-stop (legal (a .freq)) (now (a .given)) (c .before .before .before .before .loop .i) 0 (c .before .before .before .loop-test .taken) (sym (c .before .is-legal .ensures) ∙ not-true _ (c .if4 .taken)) in
-    rw (le-ltb _ _ (c .before .before .before .before .before .before .before .if1 .left), le-ltb _ _ (c .before .before .before .before .before .before .if2 .left), eq-eqb _ _ (c .before .before .before .before .before .if3 .left), ← c .before .before .before .before .loop .inv, stopped)
+    let loop-test = c .before .before .before in
+    let loop = loop-test .before in
+    let if3 = loop .before in
+    let if2 = if3 .before in
+    let if1 = if2 .before in
+    let start = if1 .before .before in
+    let a = start .args in
+    let stopped = all-stop (legal (a .freq)) (now (a .given)) (loop .loop .i) 0 (loop-test .loop-test .taken) (sym (c .before .is-legal .ensures) ∙ not-true _ (c .if4 .taken)) in
+    rw (le-ltb _ _ (if1 .if1 .left), le-ltb _ _ (if2 .if2 .left), eq-eqb _ _ (if3 .if3 .left), ← loop .loop .inv, stopped)
 
 add-i : tie.Need-add-i Inv-loop μ-loop
 add-i c = search needs

@@ -28,25 +28,43 @@ returns-3 c = rw (le-ltb _ _ (c .before .before .before .before .if1 .left), le-
 
 returns-4 : tie.Need-returns-4
 unfolding givenWithin
-returns-4 c = rw (le-ltb _ _ (c .before .before .before .before .before .before .if1 .left), le-ltb _ _ (c .before .before .before .before .if2 .left), le-ltb _ _ (c .before .before .if3 .left), lt-ltb _ _ (c .if4 .taken))
+returns-4 c =
+    let if2 = c .before .before .before .before in
+    let if1 = if2 .before .before in
+    rw (le-ltb _ _ (if1 .if1 .left), le-ltb _ _ (if2 .if2 .left), le-ltb _ _ (c .before .before .if3 .left), lt-ltb _ _ (c .if4 .taken))
 
 cast-if5 : tie.Need-cast-if5
 cast-if5 c = search needs
 
 returns-5 : tie.Need-returns-5
 unfolding givenWithin
-returns-5 c = rw (le-ltb _ _ (c .before .before .before .before .before .before .before .before .if1 .left), le-ltb _ _ (c .before .before .before .before .before .before .if2 .left), le-ltb _ _ (c .before .before .before .before .if3 .left), le-ltb _ _ (c .before .before .if4 .left), lt-ltb _ _ (c .if5 .taken))
+returns-5 c =
+    let if3 = c .before .before .before .before in
+    let if2 = if3 .before .before in
+    let if1 = if2 .before .before in
+    rw (le-ltb _ _ (if1 .if1 .left), le-ltb _ _ (if2 .if2 .left), le-ltb _ _ (if3 .if3 .left), le-ltb _ _ (c .before .before .if4 .left), lt-ltb _ _ (c .if5 .taken))
 
 cast-if6 : tie.Need-cast-if6
 cast-if6 c = search needs
 
 returns-6 : tie.Need-returns-6
 unfolding givenWithin
-returns-6 c = rw (le-ltb _ _ (c .before .before .before .before .before .before .before .before .before .before .if1 .left), le-ltb _ _ (c .before .before .before .before .before .before .before .before .if2 .left), le-ltb _ _ (c .before .before .before .before .before .before .if3 .left), le-ltb _ _ (c .before .before .before .before .if4 .left), le-ltb _ _ (c .before .before .if5 .left), lt-ltb _ _ (c .if6 .taken))
+returns-6 c =
+    let if4 = c .before .before .before .before in
+    let if3 = if4 .before .before in
+    let if2 = if3 .before .before in
+    let if1 = if2 .before .before in
+    rw (le-ltb _ _ (if1 .if1 .left), le-ltb _ _ (if2 .if2 .left), le-ltb _ _ (if3 .if3 .left), le-ltb _ _ (if4 .if4 .left), le-ltb _ _ (c .before .before .if5 .left), lt-ltb _ _ (c .if6 .taken))
 
 returns-7 : tie.Need-returns-7
 unfolding givenWithin
-returns-7 c = rw (le-ltb _ _ (c .before .before .before .before .before .before .before .before .before .before .before .if1 .left), le-ltb _ _ (c .before .before .before .before .before .before .before .before .before .if2 .left), le-ltb _ _ (c .before .before .before .before .before .before .before .if3 .left), le-ltb _ _ (c .before .before .before .before .before .if4 .left), le-ltb _ _ (c .before .before .before .if5 .left), le-ltb _ _ (c .before .if6 .left))
+returns-7 c =
+    let if5 = c .before .before .before in
+    let if4 = if5 .before .before in
+    let if3 = if4 .before .before in
+    let if2 = if3 .before .before in
+    let if1 = if2 .before .before in
+    rw (le-ltb _ _ (if1 .if1 .left), le-ltb _ _ (if2 .if2 .left), le-ltb _ _ (if3 .if3 .left), le-ltb _ _ (if4 .if4 .left), le-ltb _ _ (if5 .if5 .left), le-ltb _ _ (c .before .if6 .left))
 
 pub given-within-spec : {M : Type 1} → statement M
 given-within-spec =

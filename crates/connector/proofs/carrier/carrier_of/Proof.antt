@@ -19,8 +19,10 @@ place-requires c κs = (rw (c .before .before .sending .given .1) at (c .before 
 
 carrier-requires : tie.Need-carrier-requires
 carrier-requires c κs =
-    let s = rw (c .before .before .before .sending .given .1) at (c .before .before .before .before .before .before .pre .0) in
-    (c .before .before .before .before .before .before .pre .1, s .few)
+    let sending = c .before .before .before in
+    let start = sending .before .before .before in
+    let s = rw (sending .sending .given .1) at (start .pre .0) in
+    (start .pre .1, s .few)
 
 returns : tie.Need-returns
 returns c = search needs

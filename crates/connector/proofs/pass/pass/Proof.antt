@@ -15,8 +15,10 @@ cast-passed c = search needs
 
 passed-requires : tie.Need-passed-requires
 passed-requires c κs =
-    let s = rw (c .before .before .before .before .sending .given .1) at (c .before .before .before .before .before .before .pre .0) in
-    (s .paced, omega arith, s .freq-high, c .before .before .before .before .before .before .pre .1)
+    let sending = c .before .before .before .before in
+    let start = sending .before .before in
+    let s = rw (sending .sending .given .1) at (start .pre .0) in
+    (s .paced, omega arith, s .freq-high, start .pre .1)
 
 enum-known-pace : tie.Need-enum-known-pace
 enum-known-pace c = search needs

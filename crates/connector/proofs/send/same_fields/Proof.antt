@@ -22,8 +22,10 @@ returns-3 c =
 returns-4 : tie.Need-returns-4
 unfolding sameFields
 returns-4 c =
-    let id = eq-eqb _ _ (c .before .before .before .before .before .before .before .before .if1 .left) in
-    let freq = eq-eqb _ _ (c .before .before .before .before .before .if2 .left) in
+    let if2 = c .before .before .before .before .before in
+    let if1 = if2 .before .before .before in
+    let id = eq-eqb _ _ (if1 .if1 .left) in
+    let freq = eq-eqb _ _ (if2 .if2 .left) in
     let repeat = eq-eqb _ _ (c .before .before .if3 .left) in
     rw (id, freq, repeat)
 

@@ -40,7 +40,9 @@ returns-2 c =
 returns-3 : tie.Need-returns-3
 unfolding getContact
 returns-3 c =
-    let sensor = sym (c .before .before .before .before .before .is-sensor .ensures) ∙ not-false _ (c .before .before .before .before .if1 .left) in
+    let if1 = c .before .before .before .before in
+    let is-sensor = if1 .before in
+    let sensor = sym (is-sensor .is-sensor .ensures) ∙ not-false _ (if1 .if1 .left) in
     rw (sensor, c .before .before .contact .given .1) (c .says .ensures)
 
 pub get-contact-spec : {M : Type 1} → statement M

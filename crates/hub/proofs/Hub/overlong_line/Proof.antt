@@ -38,9 +38,13 @@ same-length c = search needs
 returns-3 : tie.Need-returns-3
 unfolding overlongStep
 returns-3 c =
-    let low = le-ltb _ _ (c .before .before .before .before .before .before .before .if1 .left) in
-    let roomy = le-ltb _ _ (c .before .before .before .before .before .before .if2 .left) in
-    rw (low, roomy, ← c .before .before .before .before .before .nowhere .ensures, ← c .before .before .before .before .fails .ensures)
+    let fails = c .before .before .before .before in
+    let nowhere = fails .before in
+    let if2 = nowhere .before in
+    let if1 = if2 .before in
+    let low = le-ltb _ _ (if1 .if1 .left) in
+    let roomy = le-ltb _ _ (if2 .if2 .left) in
+    rw (low, roomy, ← nowhere .nowhere .ensures, ← fails .fails .ensures)
     (c .before .before .written .ensures)
 
 pub overlong-line-spec : {M : Type 1} → statement M

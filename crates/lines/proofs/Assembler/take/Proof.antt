@@ -39,10 +39,13 @@ same-length c = search needs
 
 returns-2 : tie.Need-returns-2 Inv-loop μ-loop
 returns-2 c =
-    let i = c .before .before .before .before .before .loop .inv in
-    let cr = at-cr _ _ _ _ (c .before .before .before .before .loop-test .taken) (c .before .before .if2 .taken) (i .1) in
+    let loop-test = c .before .before .before .before in
+    let loop = loop-test .before in
+    let if1 = loop .before in
+    let i = loop .loop .inv in
+    let cr = at-cr _ _ _ _ (loop-test .loop-test .taken) (c .before .before .if2 .taken) (i .1) in
     rw (c .before .fresh .ensures, c .found-of .ensures)
-    (takes (from-start _ _ _ (c .before .before .before .before .before .before .if1 .left) ∙ i .3 ∙ cr))
+    (takes (from-start _ _ _ (if1 .if1 .left) ∙ i .3 ∙ cr))
 
 kept-requires : tie.Need-kept-requires Inv-loop μ-loop
 kept-requires c κs = search needs
@@ -55,11 +58,14 @@ loop-less c = search needs
 
 loop-again : tie.Need-loop-again Inv-loop μ-loop
 loop-again c =
-    let i = c .before .before .before .before .before .before .before .loop .inv in
+    let if2 = c .before .before .before .before in
+    let loop-test = if2 .before .before in
+    let loop = loop-test .before in
+    let i = loop .loop .inv in
     let k = c .before .before .kept .ensures in
-    let inside = c .before .before .before .before .before .before .loop-test .taken in
-    let byte = at-byte _ _ _ _ inside (c .before .before .before .before .if2 .left) (i .2) in
-    let few = counted-most (suc (c .before .before .before .before .before .before .before .loop .size)) in
+    let inside = loop-test .loop-test .taken in
+    let byte = at-byte _ _ _ _ inside (if2 .if2 .left) (i .2) in
+    let few = counted-most (suc (loop .loop .size)) in
     (omega arith, rw (k .0) few, search needs, i .3 ∙ rw (k .0, k .1) byte)
 
 found-of-requires-2 : tie.Need-found-of-requires-2 Inv-loop μ-loop

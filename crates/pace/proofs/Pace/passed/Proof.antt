@@ -24,14 +24,19 @@ sub-t9 : tie.Need-sub-t9
 sub-t9 c = search needs
 
 add-t10 : tie.Need-add-t10
-add-t10 c = rw (c .before .before .before .before .before .before .end .ensures) (omega (arith, end-high (c .before .before .before .before .before .before .before .pre .0)))
+add-t10 c =
+    let end = c .before .before .before .before .before .before in
+    let start = end .before in
+    rw (end .end .ensures) (omega (arith, end-high (start .pre .0)))
 
 div-t11 : tie.Need-div-t11
 div-t11 c = search needs
 
 returns : tie.Need-returns
 unfolding passed firstMicro
-returns c = rw (c .before .before .before .before .before .before .end .ensures, le-leb _ _ (rw (c .before .before .before .before .before .before .end .ensures) at (c .before .before .if1 .taken)))
+returns c =
+    let end = c .before .before .before .before .before .before in
+    rw (end .end .ensures, le-leb _ _ (rw (end .end .ensures) at (c .before .before .if1 .taken)))
 
 moved-requires : tie.Need-moved-requires
 moved-requires c κs = search needs

@@ -22,11 +22,19 @@ returns-2 c = rw (sym (c .before .before .before .has-module .ensures) ∙ not-f
 
 returns-3 : tie.Need-returns-3
 unfolding addressFault
-returns-3 c = rw (sym (c .before .before .before .before .before .before .has-module .ensures) ∙ not-false _ (c .before .before .before .before .before .if1 .left), le-ltb _ _ (c .before .before .before .if2 .left), ← c .before .before .ports-of .ensures, lt-ltb _ _ (c .if3 .taken))
+returns-3 c =
+    let if2 = c .before .before .before in
+    let if1 = if2 .before .before in
+    let has-module = if1 .before in
+    rw (sym (has-module .has-module .ensures) ∙ not-false _ (if1 .if1 .left), le-ltb _ _ (if2 .if2 .left), ← c .before .before .ports-of .ensures, lt-ltb _ _ (c .if3 .taken))
 
 returns-4 : tie.Need-returns-4
 unfolding addressFault
-returns-4 c = rw (sym (c .before .before .before .before .before .before .has-module .ensures) ∙ not-false _ (c .before .before .before .before .before .if1 .left), le-ltb _ _ (c .before .before .before .if2 .left), ← c .before .before .ports-of .ensures, le-ltb _ _ (c .if3 .left))
+returns-4 c =
+    let if2 = c .before .before .before in
+    let if1 = if2 .before .before in
+    let has-module = if1 .before in
+    rw (sym (has-module .has-module .ensures) ∙ not-false _ (if1 .if1 .left), le-ltb _ _ (if2 .if2 .left), ← c .before .before .ports-of .ensures, le-ltb _ _ (c .if3 .left))
 
 pub address-fault-spec : {M : Type 1} → statement M
 address-fault-spec = tie.close (tie.spec has-module-requires returns returns-2 ports-of-requires returns-3 returns-4)

@@ -61,8 +61,12 @@ is-digit-requires-2 c κs = search needs
 returns-5 : tie.Need-returns-5
 unfolding isShort
 returns-5 c =
-    let a = c .before .before .before .before .before .before .before .before .before .before .before .args in
-    rw (le-ltb (length (now (a .s))) (a .at + 3) (omega arith), sym (c .before .before .before .before .before .before .is-digit .ensures) ∙ not-false _ (c .before .before .before .before .before .if3 .left), eq-eqb _ _ (c .before .before .before .if4 .left), sym (c .before .is-digit2 .ensures) ∙ not-true _ (c .if5 .taken))
+    let if4 = c .before .before .before in
+    let if3 = if4 .before .before in
+    let is-digit = if3 .before in
+    let start = is-digit .before .before .before .before .before in
+    let a = start .args in
+    rw (le-ltb (length (now (a .s))) (a .at + 3) (omega arith), sym (is-digit .is-digit .ensures) ∙ not-false _ (if3 .if3 .left), eq-eqb _ _ (if4 .if4 .left), sym (c .before .is-digit2 .ensures) ∙ not-true _ (c .if5 .taken))
 
 add-ends-field : tie.Need-add-ends-field
 add-ends-field c = search needs
@@ -73,8 +77,12 @@ ends-field-requires c κs = search needs
 returns-6 : tie.Need-returns-6
 unfolding isShort
 returns-6 c =
-    let a = c .before .before .before .before .before .before .before .before .before .before .before .before .args in
-    rw (le-ltb (length (now (a .s))) (a .at + 3) (omega arith), sym (c .before .before .before .before .before .before .before .is-digit .ensures) ∙ not-false _ (c .before .before .before .before .before .before .if3 .left), eq-eqb _ _ (c .before .before .before .before .if4 .left), sym (c .before .before .is-digit2 .ensures) ∙ not-false _ (c .before .if5 .left)) (c .ends-field .ensures)
+    let if4 = c .before .before .before .before in
+    let if3 = if4 .before .before in
+    let is-digit = if3 .before in
+    let start = is-digit .before .before .before .before .before in
+    let a = start .args in
+    rw (le-ltb (length (now (a .s))) (a .at + 3) (omega arith), sym (is-digit .is-digit .ensures) ∙ not-false _ (if3 .if3 .left), eq-eqb _ _ (if4 .if4 .left), sym (c .before .before .is-digit2 .ensures) ∙ not-false _ (c .before .if5 .left)) (c .ends-field .ensures)
 
 pub is-short-spec : {M : Type 1} → statement M
 is-short-spec =

@@ -25,8 +25,10 @@ shared-slice-read-if2 c = search needs
 returns-2 : tie.Need-returns-2
 unfolding addressAt
 returns-2 c =
+    let m = c .before .before .before .before in
+    let part-at = m .before .before in
     rw (
-      sym (c .before .before .before .before .before .before .part-at .ensures) ∙ c .before .before .before .before .m .given .1,
+      sym (part-at .part-at .ensures) ∙ m .m .given .1,
       lt-leb _ _ (c .before .before .if1 .left),
       ne-eqb _ _ (c .if2 .taken),
     )
@@ -44,9 +46,12 @@ returns-3 c = rw (sym (c .before .before .part-at .ensures) ∙ c .enum-told .gi
 returns-4 : tie.Need-returns-4
 unfolding addressAt
 returns-4 c =
+    let if1 = c .before .before .before in
+    let m = if1 .before .before in
+    let part-at = m .before .before in
     rw (
-      sym (c .before .before .before .before .before .before .before .part-at .ensures) ∙ c .before .before .before .before .before .m .given .1,
-      lt-leb _ _ (c .before .before .before .if1 .left),
+      sym (part-at .part-at .ensures) ∙ m .m .given .1,
+      lt-leb _ _ (if1 .if1 .left),
       eq-eqb _ _ (c .before .if2 .left),
     ) (c .port-at .ensures)
 

@@ -59,18 +59,26 @@ add-t22 c = search needs
 returns-4 : tie.Need-returns-4
 unfolding modeAt
 returns-4 c =
+    let if3 = c .before .before .before in
+    let field-is2 = if3 .before in
+    let if2 = field-is2 .before .before in
+    let field-is = if2 .before in
     rw (
-      sym (c .before .before .before .before .before .before .before .field-is .ensures) ∙ c .before .before .before .before .before .before .if2 .left,
-      sym (c .before .before .before .before .field-is2 .ensures) ∙ c .before .before .before .if3 .left,
+      sym (field-is .field-is .ensures) ∙ if2 .if2 .left,
+      sym (field-is2 .field-is2 .ensures) ∙ if3 .if3 .left,
       sym (c .before .field-is3 .ensures) ∙ c .if4 .taken,
     )
 
 returns-5 : tie.Need-returns-5
 unfolding modeAt
 returns-5 c =
+    let if3 = c .before .before .before in
+    let field-is2 = if3 .before in
+    let if2 = field-is2 .before .before in
+    let field-is = if2 .before in
     rw (
-      sym (c .before .before .before .before .before .before .before .field-is .ensures) ∙ c .before .before .before .before .before .before .if2 .left,
-      sym (c .before .before .before .before .field-is2 .ensures) ∙ c .before .before .before .if3 .left,
+      sym (field-is .field-is .ensures) ∙ if2 .if2 .left,
+      sym (field-is2 .field-is2 .ensures) ∙ if3 .if3 .left,
       sym (c .before .field-is3 .ensures) ∙ c .if4 .left,
     )
 

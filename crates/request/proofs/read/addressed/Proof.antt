@@ -38,9 +38,11 @@ fault-requires-2 c κs = search needs
 
 returns : tie.Need-returns
 returns c =
+    let place = c .before .before .before .before in
+    let address-at = place .before .before in
     rw (
-      address (c .before .before .before .before .before .before),
-      c .before .before .before .before .place .given .1,
+      address address-at,
+      place .place .given .1,
       ← c .before .before .address-fault .ensures,
       ne-eqb _ _ (c .before .if1 .taken),
     ) (c .fault2 .ensures)
@@ -53,9 +55,11 @@ returns-2 c = rw (address (c .before .before .before), c .before .enum-told .giv
 
 returns-3 : tie.Need-returns-3
 returns-3 c =
+    let place = c .before .before .before .before in
+    let address-at = place .before .before in
     rw (
-      address (c .before .before .before .before .before .before),
-      c .before .before .before .before .place .given .1,
+      address address-at,
+      place .place .given .1,
       ← c .before .before .address-fault .ensures,
       eq-eqb _ _ (c .before .if1 .left),
     ) (c .at-address .ensures)

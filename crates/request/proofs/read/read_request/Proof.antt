@@ -53,7 +53,10 @@ returns-3 : tie.Need-returns-3
 returns-3 c = rw (rest (c .before .before .before .before), sym (c .before .before .before .word-at .ensures) ∙ c .before .enum-told .given .1) (c .fault3 .ensures)
 
 returns-4 : tie.Need-returns-4
-returns-4 c = rw (rest (c .before .before .before .before .before), sym (c .before .before .before .before .word-at .ensures) ∙ c .before .before .word .given .1) (c .worded .ensures)
+returns-4 c =
+    let word-at = c .before .before .before .before in
+    let if2 = word-at .before in
+    rw (rest if2, sym (word-at .word-at .ensures) ∙ c .before .before .word .given .1) (c .worded .ensures)
 
 pub read-request-spec : {M : Type 1} → statement M
 read-request-spec =

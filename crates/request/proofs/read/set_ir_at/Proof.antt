@@ -27,8 +27,10 @@ returns c = rw (sym (c .before .before .mode-at .ensures) ∙ c .enum-told .give
 returns-2 : tie.Need-returns-2
 unfolding setIrAt
 returns-2 c =
+    let mode = c .before .before .before .before in
+    let mode-at = mode .before .before in
     rw (
-      sym (c .before .before .before .before .before .before .mode-at .ensures) ∙ c .before .before .before .before .mode .given .1,
+      sym (mode-at .mode-at .ensures) ∙ mode .mode .given .1,
       sym (c .before .before .may-have .ensures) ∙ c .before .if1 .taken,
     ) (c .alone .ensures)
 

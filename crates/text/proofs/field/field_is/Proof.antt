@@ -28,7 +28,11 @@ shared-slice-read-if2-2 : tie.Need-shared-slice-read-if2-2 Inv-loop μ-loop
 shared-slice-read-if2-2 c = search needs
 
 returns-2 : tie.Need-returns-2 Inv-loop μ-loop
-returns-2 c = sym (word-other _ _ _ _ (c .before .before .before .before .loop-test .taken) (c .before .before .before .if1 .left) (c .if2 .taken)) ∙ c .before .before .before .before .before .loop .inv
+returns-2 c =
+    let if1 = c .before .before .before in
+    let loop-test = if1 .before in
+    let loop = loop-test .before in
+    sym (word-other _ _ _ _ (loop-test .loop-test .taken) (if1 .if1 .left) (c .if2 .taken)) ∙ loop .loop .inv
 
 add-i : tie.Need-add-i Inv-loop μ-loop
 add-i c = search needs
@@ -40,7 +44,11 @@ loop-less : tie.Need-loop-less Inv-loop μ-loop
 loop-less c = search needs
 
 loop-again : tie.Need-loop-again Inv-loop μ-loop
-loop-again c = sym (word-same _ _ _ _ (c .before .before .before .before .loop-test .taken) (c .before .before .before .if1 .left) (c .if2 .left)) ∙ c .before .before .before .before .before .loop .inv
+loop-again c =
+    let if1 = c .before .before .before in
+    let loop-test = if1 .before in
+    let loop = loop-test .before in
+    sym (word-same _ _ _ _ (loop-test .loop-test .taken) (if1 .if1 .left) (c .if2 .left)) ∙ loop .loop .inv
 
 ends-field-requires : tie.Need-ends-field-requires Inv-loop μ-loop
 ends-field-requires c κs = search needs

@@ -27,11 +27,18 @@ returns c = rw (sym (c .before .before .before .before .before .number-at .ensur
 
 returns-2 : tie.Need-returns-2
 unfolding fieldWithin
-returns-2 c = rw (sym (c .before .before .before .before .before .before .number-at .ensures) ∙ c .before .before .before .before .value .given .1, sym (c .before .before .ends-field .ensures) ∙ not-false _ (c .before .if1 .left), lt-ltb _ _ (c .if2 .taken))
+returns-2 c =
+    let value = c .before .before .before .before in
+    let number-at = value .before .before in
+    rw (sym (number-at .number-at .ensures) ∙ value .value .given .1, sym (c .before .before .ends-field .ensures) ∙ not-false _ (c .before .if1 .left), lt-ltb _ _ (c .if2 .taken))
 
 returns-3 : tie.Need-returns-3
 unfolding fieldWithin
-returns-3 c = rw (sym (c .before .before .before .before .before .before .before .number-at .ensures) ∙ c .before .before .before .before .before .value .given .1, sym (c .before .before .before .ends-field .ensures) ∙ not-false _ (c .before .before .if1 .left), le-ltb _ _ (c .before .if2 .left), lt-ltb _ _ (c .if3 .taken))
+returns-3 c =
+    let ends-field = c .before .before .before in
+    let value = ends-field .before .before in
+    let number-at = value .before .before in
+    rw (sym (number-at .number-at .ensures) ∙ value .value .given .1, sym (ends-field .ends-field .ensures) ∙ not-false _ (c .before .before .if1 .left), le-ltb _ _ (c .before .if2 .left), lt-ltb _ _ (c .if3 .taken))
 
 returns-4 : tie.Need-returns-4
 unfolding fieldWithin
@@ -43,7 +50,11 @@ returns-5 c = rw (sym (c .before .before .number-at .ensures) ∙ c .enum-told2 
 
 returns-6 : tie.Need-returns-6
 unfolding fieldWithin
-returns-6 c = rw (sym (c .before .before .before .before .before .before .before .number-at .ensures) ∙ c .before .before .before .before .before .value .given .1, sym (c .before .before .before .ends-field .ensures) ∙ not-false _ (c .before .before .if1 .left), le-ltb _ _ (c .before .if2 .left), le-ltb _ _ (c .if3 .left))
+returns-6 c =
+    let ends-field = c .before .before .before in
+    let value = ends-field .before .before in
+    let number-at = value .before .before in
+    rw (sym (number-at .number-at .ensures) ∙ value .value .given .1, sym (ends-field .ends-field .ensures) ∙ not-false _ (c .before .before .if1 .left), le-ltb _ _ (c .before .if2 .left), le-ltb _ _ (c .if3 .left))
 
 pub field-within-spec : {M : Type 1} → statement M
 field-within-spec =

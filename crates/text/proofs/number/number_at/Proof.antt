@@ -38,7 +38,10 @@ found-requires : tie.Need-found-requires Inv-loop μ-loop
 found-requires c κs = search needs
 
 returns : tie.Need-returns Inv-loop μ-loop
-returns c = c .found .ensures ∙ sym (reading-stop (c .before .before .before .before .before .loop .inv) (leading-stop isDigit _ _ (c .before .before .before .before .loop-test .taken) (sym (c .before .before .is-digit .ensures) ∙ not-true _ (c .before .if1 .taken))))
+returns c =
+    let loop-test = c .before .before .before .before in
+    let loop = loop-test .before in
+    c .found .ensures ∙ sym (reading-stop (loop .loop .inv) (leading-stop isDigit _ _ (loop-test .loop-test .taken) (sym (c .before .before .is-digit .ensures) ∙ not-true _ (c .before .if1 .taken))))
 
 grown-requires : tie.Need-grown-requires Inv-loop μ-loop
 grown-requires c κs =
@@ -55,7 +58,10 @@ loop-less : tie.Need-loop-less Inv-loop μ-loop
 loop-less c = search needs
 
 loop-again : tie.Need-loop-again Inv-loop μ-loop
-loop-again c = reading-more (c .before .before .before .before .before .loop .inv) (c .before .before .before .before .loop-test .taken) (dig (c .before)) (c .grown .ensures)
+loop-again c =
+    let loop-test = c .before .before .before .before in
+    let loop = loop-test .before in
+    reading-more (loop .loop .inv) (loop-test .loop-test .taken) (dig (c .before)) (c .grown .ensures)
 
 found-requires-2 : tie.Need-found-requires-2 Inv-loop μ-loop
 found-requires-2 c κs = search needs

@@ -63,14 +63,20 @@ loop-less c = search needs
 
 loop-again : tie.Need-loop-again Inv-loop μ-loop
 loop-again c =
-    let inv = c .before .before .before .before .before .before .loop .inv in
+    let loop-test = c .before .before .before .before .before in
+    let loop = loop-test .before in
+    let start = loop .before .before .before in
+    let inv = loop .loop .inv in
     let h = rw (c .before .in-use .ensures) at (c .if1 .taken) in
     let e : 65 + c .before .before .place-of .result % 15 ≡ 65 + c .before .before .place-of .result =
-    omega (arith, at-most (c .before .before .before .before .before .before .before .before .before .args .form) (c .before .before .before .before .before .before .loop .letters .count), inv .kept .few) in
-    rw e (writing-letter inv (c .before .before .before .before .before .loop-test .taken) (c .before .before .place-of .ensures) h)
+    omega (arith, at-most (start .args .form) (loop .loop .letters .count), inv .kept .few) in
+    rw e (writing-letter inv (loop-test .loop-test .taken) (c .before .before .place-of .ensures) h)
 
 put-spelled-requires : tie.Need-put-spelled-requires Inv-loop μ-loop
-put-spelled-requires c κs = omega (arith, c .before .before .before .before .before .before .before .loop .inv .room, c .before .before .before .before .before .before .loop-test .taken)
+put-spelled-requires c κs =
+    let loop-test = c .before .before .before .before .before .before in
+    let loop = loop-test .before in
+    omega (arith, loop .loop .inv .room, loop-test .loop-test .taken)
 
 learn-requires : tie.Need-learn-requires Inv-loop μ-loop
 learn-requires c κs = search needs
@@ -83,9 +89,15 @@ loop-less-2 c = search needs
 
 loop-again-2 : tie.Need-loop-again-2 Inv-loop μ-loop
 loop-again-2 c =
-    let inv = c .before .before .before .before .before .before .before .before .before .before .before .loop .inv in
-    let put = c .before .before .before .put-spelled in
-    writing-spelled inv (c .before .before .before .before .before .before .before .before .before .before .loop-test .taken) (c .before .before .before .before .before .before .before .place-of .ensures) (rw (c .before .before .before .before .before .before .in-use .ensures) at (c .before .before .before .before .before .if1 .left)) (put .ensures) (put .kept .0) (c .learn .ensures .kept (inv .kept .few))
+    let put-spelled = c .before .before .before in
+    let if1 = put-spelled .before .before in
+    let in-use = if1 .before in
+    let place-of = in-use .before in
+    let loop-test = place-of .before .before .before in
+    let loop = loop-test .before in
+    let inv = loop .loop .inv in
+    let put = put-spelled .put-spelled in
+    writing-spelled inv (loop-test .loop-test .taken) (place-of .place-of .ensures) (rw (in-use .in-use .ensures) at (if1 .if1 .left)) (put .ensures) (put .kept .0) (c .learn .ensures .kept (inv .kept .few))
 
 same-length : tie.Need-same-length Inv-loop μ-loop
 same-length c = search needs

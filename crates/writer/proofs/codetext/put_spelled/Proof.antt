@@ -21,24 +21,40 @@ put-comma-requires : tie.Need-put-comma-requires
 put-comma-requires c κs = search needs
 
 put-number-requires : tie.Need-put-number-requires
-put-number-requires c κs = omega (arith, on-few (c .before .before .before .before .before .before), comma-few (c .before .before .before .before .before .before .args .after), c .before .before .before .put-comma .ensures .place, c .before .before .before .put-comma .kept .0)
+put-number-requires c κs =
+    let put-comma = c .before .before .before in
+    let start = put-comma .before .before .before in
+    omega (arith, on-few start, comma-few (start .args .after), put-comma .put-comma .ensures .place, put-comma .put-comma .kept .0)
 
 slice-aggregate-put-word : tie.Need-slice-aggregate-put-word
 slice-aggregate-put-word c = search needs
 
 put-word-requires : tie.Need-put-word-requires
-put-word-requires c κs = omega (arith, on-few (c .before .before .before .before .before .before .before .before .before .before .before), comma-few (c .before .before .before .before .before .before .before .before .before .before .before .args .after), c .before .before .before .before .before .before .before .before .put-comma .ensures .place, c .before .before .before .before .before .before .before .before .put-comma .kept .0, c .before .before .before .before .put-number .ensures .place, c .before .before .before .before .put-number .kept .0)
+put-word-requires c κs =
+    let put-number = c .before .before .before .before in
+    let put-comma = put-number .before .before .before .before in
+    let start = put-comma .before .before .before in
+    omega (arith, on-few start, comma-few (start .args .after), put-comma .put-comma .ensures .place, put-comma .put-comma .kept .0, put-number .put-number .ensures .place, put-number .put-number .kept .0)
 
 put-number-requires-2 : tie.Need-put-number-requires-2
-put-number-requires-2 c κs = omega (arith, on-few (c .before .before .before .before .before .before .before .before .before .before .before .before .before .before .before), off-few (c .before .before .before .before .before .before .before .before .before .before .before .before .before .before .before), comma-few (c .before .before .before .before .before .before .before .before .before .before .before .before .before .before .before .args .after), c .before .before .before .before .before .before .before .before .before .before .before .before .put-comma .ensures .place, c .before .before .before .before .before .before .before .before .before .before .before .before .put-comma .kept .0, c .before .before .before .before .before .before .before .before .put-number .ensures .place, c .before .before .before .before .before .before .before .before .put-number .kept .0, c .before .before .before .put-word .ensures .place, c .before .before .before .put-word .kept .0)
+put-number-requires-2 c κs =
+    let put-word = c .before .before .before in
+    let put-number = put-word .before .before .before .before .before in
+    let put-comma = put-number .before .before .before .before in
+    let start = put-comma .before .before .before in
+    omega (arith, on-few start, off-few start, comma-few (start .args .after), put-comma .put-comma .ensures .place, put-comma .put-comma .kept .0, put-number .put-number .ensures .place, put-number .put-number .kept .0, put-word .put-word .ensures .place, put-word .put-word .kept .0)
 
 same-length : tie.Need-same-length
 same-length c = search needs
 
 returns : tie.Need-returns
 returns c =
-    let p = then (c .before .before .before .before .before .before .before .before .before .before .before .before .before .before .before .put-comma .ensures) (then (then (c .before .before .before .before .before .before .before .before .before .before .before .put-number .ensures) (c .before .before .before .before .before .before .put-word .ensures)) (c .before .before .put-number2 .ensures)) in
-    (p, omega (arith, p .place, pair-length (c .before .before .before .before .before .before .before .before .before .before .before .before .before .before .before .before .before .before .args .after) (c .before .before .before .before .before .before .before .before .before .before .before .before .before .before .before .before .before .before .args .on) (c .before .before .before .before .before .before .before .before .before .before .before .before .before .before .before .before .before .before .args .off), on-few (c .before .before .before .before .before .before .before .before .before .before .before .before .before .before .before .before .before .before), off-few (c .before .before .before .before .before .before .before .before .before .before .before .before .before .before .before .before .before .before), comma-few (c .before .before .before .before .before .before .before .before .before .before .before .before .before .before .before .before .before .before .args .after)))
+    let put-word = c .before .before .before .before .before .before in
+    let put-number = put-word .before .before .before .before .before in
+    let put-comma = put-number .before .before .before .before in
+    let start = put-comma .before .before .before in
+    let p = then (put-comma .put-comma .ensures) (then (then (put-number .put-number .ensures) (put-word .put-word .ensures)) (c .before .before .put-number2 .ensures)) in
+    (p, omega (arith, p .place, pair-length (start .args .after) (start .args .on) (start .args .off), on-few start, off-few start, comma-few (start .args .after)))
 
 pub put-spelled-spec : {M : Type 1} → statement M
 put-spelled-spec =

@@ -20,15 +20,20 @@ slice-aggregate-put-word : tie.Need-slice-aggregate-put-word
 slice-aggregate-put-word c = search needs
 
 put-word-requires : tie.Need-put-word-requires
-put-word-requires c κs = omega (arith, few (c .before .before .before .before .before .before .before), c .before .before .before .before .before .before .before .pre .1, c .before .before .before .before .put-number .ensures .place, c .before .before .before .before .put-number .kept .0)
+put-word-requires c κs =
+    let put-number = c .before .before .before .before in
+    let start = put-number .before .before .before in
+    omega (arith, few start, start .pre .1, put-number .put-number .ensures .place, put-number .put-number .kept .0)
 
 same-length : tie.Need-same-length
 same-length c = search needs
 
 returns : tie.Need-returns
 returns c =
-    let p = then (c .before .before .before .before .before .before .before .put-number .ensures) (c .before .before .put-word .ensures) in
-    (p, omega (arith, p .place, length-append (decimal (c .before .before .before .before .before .before .before .before .before .before .args .n)) (bytes ","), few (c .before .before .before .before .before .before .before .before .before .before)))
+    let put-number = c .before .before .before .before .before .before .before in
+    let start = put-number .before .before .before in
+    let p = then (put-number .put-number .ensures) (c .before .before .put-word .ensures) in
+    (p, omega (arith, p .place, length-append (decimal (start .args .n)) (bytes ","), few start))
 
 pub put-field-spec : {M : Type 1} → statement M
 put-field-spec =

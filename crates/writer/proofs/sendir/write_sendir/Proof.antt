@@ -20,8 +20,11 @@ enum-known-f c = search needs
 
 put-head-requires : tie.Need-put-head-requires
 put-head-requires c κs =
-    let read = rw (c .before .before .before .f .given .1) at (c .before .before .before .before .before .command-given .ensures) in
-    (head-small _ _ read, omega (arith, c .before .before .before .before .before .before .before .if1 .left))
+    let f = c .before .before .before in
+    let command-given = f .before .before in
+    let if1 = command-given .before .before in
+    let read = rw (f .f .given .1) at (command-given .command-given .ensures) in
+    (head-small _ _ read, omega (arith, if1 .if1 .left))
 
 put-code-requires : tie.Need-put-code-requires
 put-code-requires c κs =

@@ -41,11 +41,12 @@ pub fn pass(c: Connector, place: Place, wait: Micros) -> Passing
                     Passing::Running(crate::records::with_sending(c, owner, Sending::Running(next)))
                 }
                 Passed::Complete(moment) => {
+                    let id = fields.id as u64;
                     let completion = Completion {
                         owner,
                         moment,
                         place,
-                        id: fields.id as u64,
+                        id,
                     };
                     let next = crate::records::with_sending(c, Owner::Nobody, Sending::Idle);
                     Passing::Complete(next, completion)

@@ -29,8 +29,8 @@ with-sending-requires c κs = search needs
 enum-known-moment : tie.Need-enum-known-moment
 enum-known-moment c = search needs
 
-cast-t20 : tie.Need-cast-t20
-cast-t20 c = search needs
+cast-id : tie.Need-cast-id
+cast-id c = search needs
 
 with-sending-requires-2 : tie.Need-with-sending-requires-2
 with-sending-requires-2 c κs = search needs
@@ -59,7 +59,7 @@ pass-spec =
     enum-known-pace
     with-sending-requires
     enum-known-moment
-    cast-t20
+    cast-id
     with-sending-requires-2
     returns
     returns-2

@@ -27,7 +27,7 @@ impl Code {
 
     pub const MOST_REPEAT: u64 = 999999;
     // A greater repeat is taken as this one.
-    pub const REPEAT_CAP: u32 = 20;
+    pub const REPEAT_CAP: u64 = 20;
 
     pub const MOST_OFFSET: u64 = 383;
 }

@@ -1,10 +1,10 @@
--- Laws of the loops over counts that are given, and of the pairs that they are.
+-- Laws of the fields that are given, of the loops over counts, and of the pairs that they are.
 use Prim.Native.Nat.{ℕ, _*_, _/_, _%_, _≤_}
 use mathlib.Core.Path.{_≡_, refl, sym, ap, _∙_}
 use mathlib.Core.Bool.{true, not}
 use mathlib.Core.List.{List, [], _∷_}
 use native.Mathlib.Omega.{arith}
-use borrow.Author.Tests.{ltb-false, eqb-true, not-false}
+use borrow.Author.Tests.{ltb-false, eqb-true, eqb-false, not-true, not-false}
 use lib.Dec.{ltb, eqb}
 use lib.ListN.{length}
 use lib.Seq.{sets}
@@ -16,11 +16,39 @@ use Rattle.laws.proofs.Storing.{stores-stored}
 use Rattle.words.specs.declared.Fields.{Fields}
 use Rattle.words.specs.Pairs.{countsOf, pairsOf}
 use Rattle.words.proofs.Pairs.{counts-stored}
-use Rattle.code.specs.Limits.{legal}
+use Rattle.code.specs.Limits.{legal, mostId, leastFreq, mostFreq, mostRepeat, mostOffset}
 use Rattle.code.proofs.Smallest.{legal-is}
 use Rattle.command.specs.declared.read.CommandRead.the-variants.{Sent}
 use Rattle.command.specs.Read.{sent, CommandInto}
-use Rattle.command.specs.Given.{countsWithin, EachFits}
+use Rattle.command.specs.declared.given.Given.{Given}
+use Rattle.command.specs.Fields.{FieldsWithin}
+use Rattle.command.specs.Given.{givenWithin, countsWithin, takenAs, EachFits}
+use Rattle.command.proofs.Capping.{capped-low, capped-high}
+
+-- what fields within the limits are, as they are taken
+pub fields-in : (f : Given) → givenWithin f ≡ true → FieldsWithin (takenAs f)
+unfolding givenWithin
+fields-in f e =
+    let a = guard (ltb mostId (f .id)) _ e in
+    let b = guard (ltb (f .freq) leastFreq) _ (a .1) in
+    let c = guard (ltb mostFreq (f .freq)) _ (b .1) in
+    let d = guard (ltb (f .repeat) 1) _ (c .1) in
+    let g = guard (ltb mostRepeat (f .repeat)) _ (d .1) in
+    let h = guard (ltb mostOffset (f .offset)) _ (g .1) in
+    let uneven = odd (f .offset) (eqb-false (f .offset % 2) 0 (not-true (eqb (f .offset % 2) 0) (h .1))) in
+    record {
+      id-most = ltb-false mostId (f .id) (a .0);
+      freq-least = ltb-false (f .freq) leastFreq (b .0);
+      freq-most = ltb-false mostFreq (f .freq) (c .0);
+      repeat-least = capped-low (f .repeat) (ltb-false (f .repeat) 1 (d .0));
+      repeat-most = capped-high (f .repeat);
+      offset-least = omega arith;
+      offset-most = ltb-false mostOffset (f .offset) (h .0);
+      offset-odd = uneven;
+    }
+  where
+    odd : (n : ℕ) → (n % 2 ≡ 0 → ⊥) → n % 2 ≡ 1
+    odd n k = omega arith
 
 -- what counts within the limits are
 pub record CountsIn (freq : ℕ) (given : List ℕ) : Type 0 where

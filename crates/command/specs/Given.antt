@@ -12,6 +12,7 @@ use Rattle.words.specs.Pairs.{pairsOf}
 use Rattle.words.specs.Places.{connectors}
 use Rattle.code.specs.Limits.{legal, mostId, leastFreq, mostFreq, mostRepeat, mostOffset, mostCounts}
 use Rattle.request.specs.declared.Place.{Place}
+use Rattle.command.specs.declared.given.Given.{Given}
 use Rattle.command.specs.declared.given.Command.{Command}
 use Rattle.command.specs.Fields.{capped, fieldsOf}
 use Rattle.command.specs.Read.{CommandReading, sent, faulty}
@@ -32,7 +33,7 @@ placeWithin place = first
     ∷ []) (leb (place .port) connectors)
 
 -- an even offset and 0 are out of range
-unfoldable pub givenWithin : Fields → Bool
+unfoldable pub givenWithin : Given → Bool
 givenWithin f = first
     ((ltb mostId (f .id) ⇒ false)
     ∷ (ltb (f .freq) leastFreq ⇒ false)
@@ -43,7 +44,7 @@ givenWithin f = first
     ∷ []) (not (eqb (f .offset % 2) 0))
 
 -- the repeat as it is taken
-abbrev pub takenAs : Fields → Fields
+abbrev pub takenAs : Given → Fields
 takenAs f = fieldsOf (f .id) (f .freq) (capped (f .repeat)) (f .offset)
 
 -- "The offset is at most twice the number of pairs, less one", which is the number of counts, less one

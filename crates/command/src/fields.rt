@@ -11,7 +11,7 @@ pub enum FieldsRead {
     Good(Fields, usize),
 }
 
-pub fn capped(repeat: u32) -> u32
+pub fn capped(repeat: u64) -> u64
     ensures { λ r. ⌜ r ≡ capped repeat ⌝ }
 {
     if Code::REPEAT_CAP < repeat {
@@ -47,7 +47,7 @@ pub fn fields_at(s: &[u8], at: usize) -> FieldsRead
     let fields = Fields {
         id: id as u32,
         freq: freq as u32,
-        repeat: capped(repeat as u32),
+        repeat: capped(repeat) as u32,
         offset: offset as u32,
     };
     FieldsRead::Good(fields, text::field::after_comma(s, g))

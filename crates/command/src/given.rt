@@ -1,19 +1,28 @@
-// A command as a caller gives it: fields of any values, counts of any values in a slice of any length.
+// A command as a caller gives it: numbers of any size, counts in a slice of any length.
 use crate::read::CommandRead;
 use code::Code;
 use request::Place;
 use words::Fields;
 ghost use mathlib.Core.Path.{_≡_};
+ghost use mathlib.Core.Bool.{true};
 ghost use Prim.Native.Nat.{_≤_};
 ghost use lib.ListN.{length};
 ghost use lib.Seq.{sets};
 ghost use Rattle.command.specs.Read.{CommandInto};
 ghost use Rattle.command.specs.Given.{placeWithin, givenWithin, countsWithin, takenAs, EachFits, commandGiven};
 
+// The fields of a command as they are given.
+pub struct Given {
+    pub id: u64,
+    pub freq: u64,
+    pub repeat: u64,
+    pub offset: u64,
+}
+
 // Where a command goes, and its fields.
 pub struct Command {
     pub place: Place,
-    pub fields: Fields,
+    pub fields: Given,
 }
 
 // Whether a place is a connector's.
@@ -30,25 +39,25 @@ fn place_within(place: Place) -> bool
 }
 
 // Whether every field is within its limits.
-fn given_within(f: Fields) -> bool
+fn given_within(f: Given) -> bool
     ensures { λ r. ⌜ r ≡ givenWithin f ⌝ }
 {
-    if Code::MOST_ID < f.id as u64 {
+    if Code::MOST_ID < f.id {
         return false;
     }
-    if (f.freq as u64) < Code::LEAST_FREQ {
+    if f.freq < Code::LEAST_FREQ {
         return false;
     }
-    if Code::MOST_FREQ < f.freq as u64 {
+    if Code::MOST_FREQ < f.freq {
         return false;
     }
     if f.repeat < 1 {
         return false;
     }
-    if Code::MOST_REPEAT < f.repeat as u64 {
+    if Code::MOST_REPEAT < f.repeat {
         return false;
     }
-    if Code::MOST_OFFSET < f.offset as u64 {
+    if Code::MOST_OFFSET < f.offset {
         return false;
     }
     f.offset % 2 != 0
@@ -91,14 +100,19 @@ fn put_counts(given: &[u64], counts: &mut [u16])
 }
 
 // The fields as they are taken.
-fn taken(f: Fields) -> Fields
+fn taken(f: Given) -> Fields
+    requires { ⌜ givenWithin f ≡ true ⌝ }
     ensures { λ r. ⌜ r ≡ takenAs f ⌝ }
 {
+    let id = f.id as u32;
+    let freq = f.freq as u32;
+    let repeat = crate::fields::capped(f.repeat) as u32;
+    let offset = f.offset as u32;
     Fields {
-        id: f.id,
-        freq: f.freq,
-        repeat: crate::fields::capped(f.repeat),
-        offset: f.offset,
+        id,
+        freq,
+        repeat,
+        offset,
     }
 }
 
@@ -118,11 +132,11 @@ pub fn command_given(
     if !given_within(f) {
         return CommandRead::Fault(106);
     }
-    if !counts_within(f.freq as u64, given) {
+    if !counts_within(f.freq, given) {
         return CommandRead::Fault(106);
     }
     let count = given.len();
-    if count <= f.offset as usize {
+    if count as u64 <= f.offset {
         return CommandRead::Fault(106);
     }
     put_counts(given, counts);

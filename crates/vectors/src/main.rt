@@ -3,13 +3,13 @@
 use code::Code;
 use code::limits::Smallest;
 use command::given::Command;
+use command::given::Given;
 use hub::Answer;
 use hub::Hub;
 use pace::Micros;
 use reply::Reply;
 use request::Place;
 use request::Request;
-use words::Fields;
 use writer::Form;
 use writer::sendir::Written;
 
@@ -134,7 +134,7 @@ fn say_form(form: Form) {
 // A command of which only the counts matter, written in a form.
 fn written_vector(form: Form, label: &[u8], counts: &[u64], expected: &[u8]) {
     let mut buf = [0u8; 4096];
-    let fields = Fields {
+    let fields = Given {
         id: 1,
         freq: 40000,
         repeat: 21,

@@ -6,7 +6,7 @@ pub struct Pair {
     pub off: u16,
 }
 
-// The fields of a sendir behind its address, the repeat as capped. 32 bits hold more than any that is legal.
+// The fields of a sendir behind its address once they are judged, the repeat as capped. 32 bits hold more than any that is legal.
 pub struct Fields {
     pub id: u32,
     pub freq: u32,

@@ -1,10 +1,10 @@
 -- A command that is taken is within the limits, and its fields and pairs are those that were given.
-use Prim.Native.Nat.{ℕ, _*_, _%_, _<_}
+use Prim.Native.Nat.{ℕ, _*_, _<_}
 use mathlib.Core.Path.{_≡_, refl, sym, subst}
 use mathlib.Core.Bool.{true, not}
 use mathlib.Core.List.{List, [], _∷_}
 use native.Mathlib.Omega.{arith}
-use borrow.Author.Tests.{ltb-false, leb-true, leb-false, eqb-true, eqb-false, not-true, not-false}
+use borrow.Author.Tests.{ltb-false, leb-true, leb-false, eqb-true, not-false}
 use lib.Dec.{ltb, leb, eqb}
 use lib.ListN.{length}
 use Rattle.laws.specs.Lists.{all}
@@ -13,7 +13,7 @@ use Rattle.words.specs.declared.Pair.{Pair}
 use Rattle.words.specs.declared.Fields.{Fields}
 use Rattle.words.specs.Pairs.{pairsOf}
 use Rattle.words.specs.Places.{connectors}
-use Rattle.code.specs.Limits.{legal, legalPair, mostId, leastFreq, mostFreq, mostRepeat, mostOffset}
+use Rattle.code.specs.Limits.{legal, legalPair}
 use Rattle.code.specs.Accepted.{Accepted}
 use Rattle.request.specs.declared.Place.{Place}
 use Rattle.request.specs.Accepted.{ConnectorAt}
@@ -21,11 +21,10 @@ use Rattle.command.specs.declared.given.Command.{Command}
 use Rattle.command.specs.Fields.{FieldsWithin}
 use Rattle.command.specs.Read.{CommandReading, sent, Accepts}
 use Rattle.command.specs.Given.{placeWithin, givenWithin, countsWithin, takenAs, commandGiven}
-use Rattle.command.proofs.Capping.{capped-low, capped-high}
-use Rattle.command.proofs.Giving.{CountsIn, counts-in, pairs-length}
+use Rattle.command.proofs.Giving.{fields-in, CountsIn, counts-in, pairs-length}
 use Rattle.writer.specs.Sendir.{Small}
 
--- ---- the place and the fields
+-- ---- the place
 place-in : {place : Place} → placeWithin place ≡ true → ConnectorAt place
 unfolding placeWithin
 place-in {place} e =
@@ -36,30 +35,6 @@ place-in {place} e =
       least = ltb-false (place .port) 1 (b .0);
       most = leb-true (place .port) connectors (b .1);
     }
-
-fields-in : (f : Fields) → givenWithin f ≡ true → FieldsWithin (takenAs f)
-unfolding givenWithin
-fields-in f e =
-    let a = guard (ltb mostId (f .id)) _ e in
-    let b = guard (ltb (f .freq) leastFreq) _ (a .1) in
-    let c = guard (ltb mostFreq (f .freq)) _ (b .1) in
-    let d = guard (ltb (f .repeat) 1) _ (c .1) in
-    let g = guard (ltb mostRepeat (f .repeat)) _ (d .1) in
-    let h = guard (ltb mostOffset (f .offset)) _ (g .1) in
-    let uneven = odd (f .offset) (eqb-false (f .offset % 2) 0 (not-true (eqb (f .offset % 2) 0) (h .1))) in
-    record {
-      id-most = ltb-false mostId (f .id) (a .0);
-      freq-least = ltb-false (f .freq) leastFreq (b .0);
-      freq-most = ltb-false mostFreq (f .freq) (c .0);
-      repeat-least = capped-low (f .repeat) (ltb-false (f .repeat) 1 (d .0));
-      repeat-most = capped-high (f .repeat);
-      offset-least = omega arith;
-      offset-most = ltb-false mostOffset (f .offset) (h .0);
-      offset-odd = uneven;
-    }
-  where
-    odd : (n : ℕ) → (n % 2 ≡ 0 → ⊥) → n % 2 ≡ 1
-    odd n k = omega arith
 
 -- numbers within the limits have at most six digits
 pub small : {place : Place} {f : Fields} → ConnectorAt place → FieldsWithin f → Small (place .port) f

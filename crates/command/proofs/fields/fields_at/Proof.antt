@@ -4,6 +4,7 @@ use denote.Ref.{now}
 use native.Mathlib.Omega.{arith}
 use borrow.Author.Tests.{eq-eqb, ne-eqb}
 use Rattle.command.specs.Fields.{fieldsAt}
+use Rattle.command.proofs.Capping.{capped-high}
 use Rattle.command.proofs.Accepted.{good-most}
 use Rattle.command.proofs.Sending.{freqAt, repeatAt, offsetAt}
 use borrow.Author.Needs.{needs}
@@ -114,16 +115,14 @@ cast-t22 c =
     let freq = c .before .before .before .before .before .before .before .before .before .before .before .before in
     omega (arith, good-most _ _ _ _ (sym (freq .before .before .field-within2 .ensures) ∙ freq .freq .given .1))
 
-cast-capped : tie.Need-cast-capped
-cast-capped c =
-    let repeat = c .before .before .before .before .before .before .before in
-    omega (arith, good-most _ _ _ _ (sym (repeat .before .before .field-within3 .ensures) ∙ repeat .repeat .given .1))
-
 capped-requires : tie.Need-capped-requires
 capped-requires c κs = search needs
 
-cast-t25 : tie.Need-cast-t25
-cast-t25 c =
+cast-t23 : tie.Need-cast-t23
+cast-t23 c = omega (arith, c .capped .ensures, capped-high (c .before .before .before .before .before .before .before .before .repeat .given .0 .0))
+
+cast-t24 : tie.Need-cast-t24
+cast-t24 c =
     let offset = c .before .before .before in
     omega (arith, good-most _ _ _ _ (sym (offset .before .before .field-within4 .ensures) ∙ offset .offset .given .1))
 
@@ -169,8 +168,8 @@ fields-at-spec =
     returns-5
     cast-t21
     cast-t22
-    cast-capped
     capped-requires
-    cast-t25
+    cast-t23
+    cast-t24
     after-comma-requires-4
     returns-6)

@@ -24,29 +24,22 @@ returns-2 : tie.Need-returns-2
 unfolding commandGiven
 returns-2 c = rw (sym (c .before .before .before .before .place-within .ensures) ∙ not-false _ (c .before .before .before .if1 .left), sym (c .before .given-within .ensures) ∙ not-true _ (c .if2 .taken)) (nothing-found _ _)
 
-cast-counts-within : tie.Need-cast-counts-within
-cast-counts-within c = search needs
-
 counts-within-requires : tie.Need-counts-within-requires
 counts-within-requires c κs = search needs
 
 returns-3 : tie.Need-returns-3
 unfolding commandGiven
 returns-3 c =
-    let if2 = c .before .before .before in
-    let given-within = if2 .before in
+    let given-within = c .before .before .before in
     let if1 = given-within .before .before in
     let place-within = if1 .before in
-    rw (sym (place-within .place-within .ensures) ∙ not-false _ (if1 .if1 .left), sym (given-within .given-within .ensures) ∙ not-false _ (if2 .if2 .left), sym (c .before .counts-within .ensures) ∙ not-true _ (c .if3 .taken)) (nothing-found _ _)
-
-cast-if4 : tie.Need-cast-if4
-cast-if4 c = search needs
+    rw (sym (place-within .place-within .ensures) ∙ not-false _ (if1 .if1 .left), sym (given-within .given-within .ensures) ∙ not-false _ (c .before .before .if2 .left), sym (c .before .counts-within .ensures) ∙ not-true _ (c .if3 .taken)) (nothing-found _ _)
 
 returns-4 : tie.Need-returns-4
 unfolding commandGiven
 returns-4 c =
     let counts-within = c .before .before .before in
-    let if2 = counts-within .before .before in
+    let if2 = counts-within .before in
     let given-within = if2 .before in
     let if1 = given-within .before .before in
     let place-within = if1 .before in
@@ -59,16 +52,19 @@ put-counts-requires c κs =
     (search needs, each-fits within)
 
 taken-requires : tie.Need-taken-requires
-taken-requires c κs = search needs
+taken-requires c κs =
+    let if2 = c .before .before .before .before .before .before in
+    let given-within = if2 .before in
+    sym (given-within .given-within .ensures) ∙ not-false _ (if2 .if2 .left)
 
 returns-5 : tie.Need-returns-5
 unfolding commandGiven
 returns-5 c =
-    let size : length (now (c .before .before .before .before .before .before .before .before .before .before .before .before .before .before .before .args .counts)) ≡ 520 = search needs in
+    let size : length (now (c .before .before .before .before .before .before .before .before .before .before .before .before .before .before .args .counts)) ≡ 520 = search needs in
     let if4 = c .before .before .before in
     let if3 = if4 .before .before in
     let counts-within = if3 .before in
-    let if2 = counts-within .before .before in
+    let if2 = counts-within .before in
     let given-within = if2 .before in
     let if1 = given-within .before .before in
     let place-within = if1 .before in
@@ -84,10 +80,8 @@ command-given-spec =
     returns
     given-within-requires
     returns-2
-    cast-counts-within
     counts-within-requires
     returns-3
-    cast-if4
     returns-4
     put-counts-requires
     taken-requires

@@ -1,26 +1,16 @@
 -- `command::given::given_within` meets its contract.
 use borrow.Author.Tests.{lt-ltb, le-ltb}
 use Rattle.command.specs.Given.{givenWithin}
-use borrow.Author.Needs.{needs}
 use Rattle.command.proofs.given.given_within.Statement.{statement}
 use Rattle.command.proofs.given.given_within.Tie as tie
-
-cast-if1 : tie.Need-cast-if1
-cast-if1 c = search needs
 
 returns : tie.Need-returns
 unfolding givenWithin
 returns c = rw (lt-ltb _ _ (c .if1 .taken))
 
-cast-if2 : tie.Need-cast-if2
-cast-if2 c = search needs
-
 returns-2 : tie.Need-returns-2
 unfolding givenWithin
 returns-2 c = rw (le-ltb _ _ (c .before .before .if1 .left), lt-ltb _ _ (c .if2 .taken))
-
-cast-if3 : tie.Need-cast-if3
-cast-if3 c = search needs
 
 returns-3 : tie.Need-returns-3
 unfolding givenWithin
@@ -33,9 +23,6 @@ returns-4 c =
     let if1 = if2 .before .before in
     rw (le-ltb _ _ (if1 .if1 .left), le-ltb _ _ (if2 .if2 .left), le-ltb _ _ (c .before .before .if3 .left), lt-ltb _ _ (c .if4 .taken))
 
-cast-if5 : tie.Need-cast-if5
-cast-if5 c = search needs
-
 returns-5 : tie.Need-returns-5
 unfolding givenWithin
 returns-5 c =
@@ -43,9 +30,6 @@ returns-5 c =
     let if2 = if3 .before .before in
     let if1 = if2 .before .before in
     rw (le-ltb _ _ (if1 .if1 .left), le-ltb _ _ (if2 .if2 .left), le-ltb _ _ (if3 .if3 .left), le-ltb _ _ (c .before .before .if4 .left), lt-ltb _ _ (c .if5 .taken))
-
-cast-if6 : tie.Need-cast-if6
-cast-if6 c = search needs
 
 returns-6 : tie.Need-returns-6
 unfolding givenWithin
@@ -68,4 +52,4 @@ returns-7 c =
 
 pub given-within-spec : {M : Type 1} → statement M
 given-within-spec =
-    tie.close (tie.spec cast-if1 returns cast-if2 returns-2 cast-if3 returns-3 returns-4 cast-if5 returns-5 cast-if6 returns-6 returns-7)
+    tie.close (tie.spec returns returns-2 returns-3 returns-4 returns-5 returns-6 returns-7)

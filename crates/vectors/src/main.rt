@@ -253,10 +253,7 @@ fn line_vector(label: &[u8], line: &[u8], expected: u64) {
     say::text(b"line ");
     say::text(label);
     say::text(b": expected fault ");
-    say::number(expected);
-    say::text(b", got ");
-    say::number(got);
-    say::verdict(expected == got);
+    say::compared(expected, got);
 }
 
 // A line of 4,096 bytes is judged on its contents, one of 4,097 is 015.
@@ -317,10 +314,7 @@ fn wait_vector(micros: u64, expected: u64) {
     say::text(b"wait ");
     say::number(micros);
     say::text(b": expected refusal ");
-    say::number(expected);
-    say::text(b", got ");
-    say::number(got);
-    say::verdict(expected == got);
+    say::compared(expected, got);
 }
 
 fn main() {

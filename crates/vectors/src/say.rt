@@ -17,3 +17,11 @@ pub fn verdict(ok: bool) {
         text(b": FAILS\n");
     }
 }
+
+// The number that was expected and the one that was got; it ends the line.
+pub fn compared(expected: u64, got: u64) {
+    number(expected);
+    text(b", got ");
+    number(got);
+    verdict(expected == got);
+}

@@ -34,20 +34,8 @@ slice-aggregate-text-2 c = search needs
 text-requires-2 : tie.Need-text-requires-2
 text-requires-2 c κs = search needs
 
-number-requires-2 : tie.Need-number-requires-2
-number-requires-2 c κs = search needs
-
-slice-aggregate-text-3 : tie.Need-slice-aggregate-text-3
-slice-aggregate-text-3 c = search needs
-
-text-requires-3 : tie.Need-text-requires-3
-text-requires-3 c κs = search needs
-
-number-requires-3 : tie.Need-number-requires-3
-number-requires-3 c κs = search needs
-
-verdict-requires : tie.Need-verdict-requires
-verdict-requires c κs = search needs
+compared-requires : tie.Need-compared-requires
+compared-requires c κs = search needs
 
 returns : tie.Need-returns
 returns c = search needs
@@ -66,9 +54,5 @@ wait-vector-spec =
     number-requires
     slice-aggregate-text-2
     text-requires-2
-    number-requires-2
-    slice-aggregate-text-3
-    text-requires-3
-    number-requires-3
-    verdict-requires
+    compared-requires
     returns)

@@ -36,7 +36,7 @@ impl Reply {
 }
 
 // A word, and then m:p.
-fn put_address(buf: &mut [u8], w: &[u8], place: Place) -> usize
+pub fn put_address(buf: &mut [u8], w: &[u8], place: Place) -> usize
     requires { ⌜ length (now w) + 41 ≤ length (now buf) ⌝ }
     ensures { λ r. ⌜ Put (now (buf .entry)) 0 (addressText (now (w .entry)) place) (now (buf .exit)) r × (r ≤ length (now (w .entry)) + 41) ⌝ }
 {
@@ -47,7 +47,7 @@ fn put_address(buf: &mut [u8], w: &[u8], place: Place) -> usize
 }
 
 // A comma, a number and the CR.
-fn put_last(buf: &mut [u8], at: usize, n: u64) -> usize
+pub fn put_last(buf: &mut [u8], at: usize, n: u64) -> usize
     requires { ⌜ at + 22 ≤ length (now buf) ⌝ }
     ensures { λ r. ⌜ Put (now (buf .entry)) at (bytes "," ++ decimal n ++ bytes "\r") (now (buf .exit)) r ⌝ }
 {
@@ -68,7 +68,7 @@ fn put_error_number(buf: &mut [u8], at: usize, n: u64) -> usize
     put_word(buf, a + 3, b"\r")
 }
 
-fn put_mode(buf: &mut [u8], at: usize, mode: Mode) -> usize
+pub fn put_mode(buf: &mut [u8], at: usize, mode: Mode) -> usize
     requires { ⌜ at + 12 ≤ length (now buf) ⌝ }
     ensures { λ r. ⌜ Put (now (buf .entry)) at (bytes "," ++ modeWord mode ++ bytes "\r") (now (buf .exit)) r ⌝ }
 {

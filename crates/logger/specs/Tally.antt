@@ -1,6 +1,8 @@
--- A tally of what was heard of one place, and the average. Only a state of that place, 0 or 1, is a reading.
+-- A tally of what was heard of one place, and the average. Only a state of that place, 0 or 1, is a reading. That a tally is the count of them
+-- over any list of lines is the theorem `tally-counts` of proofs/Tallies.antt.
 use Prim.Native.Nat.{ℕ, suc, _+_, _-_, _≤_}
-use mathlib.Core.Bool.{Bool, true, false, cond, _&&_}
+use mathlib.Core.Path.{_≡_}
+use mathlib.Core.Bool.{Bool, false, cond, not, _&&_, _||_}
 use mathlib.Core.List.{List, [], _∷_}
 use lib.Dec.{eqb}
 use Rattle.laws.specs.Checks.{_⇒_, first}
@@ -65,3 +67,14 @@ averageOf t = cond (eqb (t .readings) 0) NoReading (Of (t .ones) (t .readings))
 abbrev pub howMany : {A : Type 0} → (A → Bool) → List A → ℕ
 howMany test [] = 0
 howMany test (x ∷ l) = cond (test x) (suc (howMany test l)) (howMany test l)
+
+-- a reading of a place: 0 or 1 of it was told
+abbrev pub isReading : Place → Heard → Bool
+isReading place h = tells place 1 h || tells place 0 h
+
+-- a tally of some lines: the readings among them, those that told 1, and all else; nothing else adds to it
+pub record TallyOf (place : Place) (l : List Heard) (t : Tally) : Type 0 where
+  pub of : t .place ≡ place
+  pub readings : t .readings ≡ howMany (isReading place) l
+  pub ones : t .ones ≡ howMany (tells place 1) l
+  pub others : t .others ≡ howMany (λ h. not (isReading place h)) l

@@ -70,21 +70,32 @@ impl Tally {
         requires { ⌜ SoundTally self ⌝ }
         ensures { λ r. ⌜ r ≡ counted self heard ⌝ }
     {
-        let mut next = self;
+        let place = self.place;
         if self.others == Tally::MOST - self.readings {
-            return next;
+            return self;
         }
-        if tells(self.place, heard, 1) {
-            next.readings = self.readings + 1;
-            next.ones = self.ones + 1;
-            return next;
+        if tells(place, heard, 1) {
+            return Tally {
+                place,
+                readings: self.readings + 1,
+                ones: self.ones + 1,
+                others: self.others,
+            };
         }
-        if tells(self.place, heard, 0) {
-            next.readings = self.readings + 1;
-            return next;
+        if tells(place, heard, 0) {
+            return Tally {
+                place,
+                readings: self.readings + 1,
+                ones: self.ones,
+                others: self.others,
+            };
         }
-        next.others = self.others + 1;
-        next
+        Tally {
+            place,
+            readings: self.readings,
+            ones: self.ones,
+            others: self.others + 1,
+        }
     }
 
     pub fn average(self) -> Average

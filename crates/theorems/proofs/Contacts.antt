@@ -120,7 +120,7 @@ port-digit m f e =
 -- ---- of a contact
 module _ (log : List Deed) (p v : ℕ) (told : Option ℕ) (port : Port connectors p) (small : v ≤ 1) where
   record FromContact (j : Judged) : Type 0 where
-    tells : answerOf j ≡ replied (text.line "state," 1 p (decimal v)) told → (inSensor p log ≡ true) × (contactOf p log ≡ some v)
+    tells : answerOf j ≡ replied (text.line "state," 1 p (decimal v)) told → (inSensor p log ≡ true) × (contactOf p log ≡ some v) × (told ≡ none)
 
   not-contact : (j : Judged) → other (bytes "state,1") j ≡ true → FromContact j
   unfolding decimal
@@ -134,13 +134,14 @@ module _ (log : List Deed) (p v : ℕ) (told : Option ℕ) (port : Port connecto
 
   contact-said : (q : ℕ) → q < 10 → inSensor q log ≡ true → (o : Option ℕ) → contactOf q log ≡ o → isSome o ≡ true
       → replied (text.line "state," 1 q (decimal (Option·getD o 0))) none ≡ replied (text.line "state," 1 p (decimal v)) told
-      → (inSensor p log ≡ true) × (contactOf p log ≡ some v)
+      → (inSensor p log ≡ true) × (contactOf p log ≡ some v) × (told ≡ none)
   contact-said q a mode none c i e = not-both i refl
   contact-said q a mode (some u) c i e =
       let w : text.line "state," 1 q (decimal u) ≡ text.line "state," 1 p (decimal v) = cc in
       let t = state-text 1 q u p v (omega arith) a (omega (arith, port .most)) (omega arith) w in
       let g : q ≡ p = t .0 in
-      (rw g at mode, rw g at c ∙ ap some (t .1))
+      let alone : told ≡ none = cc in
+      (rw g at mode, rw g at c ∙ ap some (t .1), alone)
 
   module _ (connection : ℕ) (s : List ℕ) where
     getstate-contact : RowContact (getstate log connection s)
@@ -180,7 +181,13 @@ module _ (log : List Deed) (p v : ℕ) (told : Option ℕ) (port : Port connecto
   -- 0 or 1 is answered for a contact only in SENSOR and only with what its last reading was
   pub state-is-last-reading : (call : Call) → answerOf (judge log call) ≡ replied (text.line "state," 1 p (decimal v)) told
       → (inSensor p log ≡ true) × (contactOf p log ≡ some v)
-  state-is-last-reading call e = call-contact call .tells e
+  state-is-last-reading call e =
+      let t = call-contact call .tells e in
+      (t .0, t .1)
+
+  -- and nobody but the asker is told
+  pub state-told-to-asker : (call : Call) → answerOf (judge log call) ≡ replied (text.line "state," 1 p (decimal v)) told → told ≡ none
+  state-told-to-asker call e = call-contact call .tells e .2
 
 -- ---- the same of a relay
 module _ (log : List Deed) (p v : ℕ) (told : Option ℕ) (port : Port relays p) (small : v ≤ 1) where

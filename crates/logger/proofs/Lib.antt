@@ -1,2 +1,5 @@
+pub mod Loops
+pub mod Meant
+pub mod Texts
 pub mod Back
 pub mod Tallies

@@ -1,3 +1,4 @@
 pub mod Heard
 pub mod Guess
 pub mod Tally
+pub mod Meant

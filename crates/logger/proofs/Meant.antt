@@ -1,0 +1,40 @@
+-- The text of a reply is the lines that it is heard as, with a CR behind each.
+use Prim.Native.Nat.{ℕ, _-_}
+use mathlib.Core.Path.{_≡_, refl, sym, ap, _∙_}
+use mathlib.Core.List.{List, [], _∷_, _++_, map, append-assoc}
+use native.Mathlib.Omega.{arith}
+use lib.ListN.{length, length-append}
+use lib.Seq.{take-append-seam}
+use Rattle.laws.specs.Bytes.{bytes}
+use Rattle.words.specs.Decimal.{decimal, threeDigits}
+use Rattle.request.specs.declared.Fixed.the-variants.{Devices, Version}
+use Rattle.request.specs.Mode.{modeWord}
+use Rattle.reply.specs.declared.Reply.{Reply}
+use Rattle.reply.specs.declared.Reply.the-variants.{Fixed, Error, Mode, State, Complete, Busy, Stopped}
+use Rattle.reply.specs.Reply.{addressText, replyText}
+use Rattle.logger.specs.declared.Heard.{Heard}
+use Rattle.logger.specs.Heard.{lineOf}
+use Rattle.logger.specs.Guess.{withoutCr}
+use Rattle.logger.specs.Meant.{heardAs, ended}
+
+-- an address, a comma and a word
+one-line : (head word : List ℕ) → head ++ (bytes "," ++ word ++ bytes "\r") ≡ (head ++ (bytes "," ++ word)) ++ (13 ∷ [])
+one-line head word = sym (append-assoc head (bytes "," ++ word) (13 ∷ []))
+
+pub heard-back : (r : Reply) → replyText r ≡ ended (map lineOf (heardAs r))
+unfolding replyText lineOf
+heard-back (Fixed Devices) = refl
+heard-back (Fixed Version) = refl
+heard-back (Error number place) = one-line (addressText (bytes "ERR_") place) (threeDigits number)
+heard-back (Mode place mode) = one-line (addressText (bytes "IR,") place) (modeWord mode)
+heard-back (State place state) = one-line (addressText (bytes "state,") place) (decimal state)
+heard-back (Complete place id) = one-line (addressText (bytes "completeir,") place) (decimal id)
+heard-back (Busy place id) = one-line (addressText (bytes "busyIR,") place) (decimal id)
+heard-back (Stopped place) = refl
+
+-- a reply of one line, without its CR
+pub line-is : (r : Reply) (h : Heard) → heardAs r ≡ h ∷ [] → withoutCr (replyText r) ≡ lineOf h
+line-is r h e =
+    let t : replyText r ≡ lineOf h ++ (13 ∷ []) = heard-back r ∙ ap (λ (l : List Heard). ended (map lineOf l)) e in
+    let k : length (replyText r) - 1 ≡ length (lineOf h) = omega (arith, ap length t ∙ length-append (lineOf h) (13 ∷ [])) in
+    rw (k, t) (take-append-seam (lineOf h) (13 ∷ []))

@@ -2,7 +2,7 @@
 use Prim.Native.Nat.{ℕ, _+_, _/_, _%_, _<_}
 use mathlib.Core.Path.{_≡_, refl, sym, ap, _∙_}
 use mathlib.Core.Bool.{Bool, true, false, not, _&&_, _||_, cond}
-use mathlib.Core.List.{List, [], append-nil}
+use mathlib.Core.List.{List, [], _∷_, append-nil}
 use native.Mathlib.Omega.{arith}
 use borrow.Author.Tests.{eqb-true, ltb-true, leb-true, le-leb, le-ltb, not-false}
 use lib.Dec.{eqb, ltb, leb}
@@ -45,20 +45,23 @@ three-back s at n e h =
     let d : all isDigit (threeDigits n) ≡ true = rw (digit (n / 100), digit (n / 10), digit n) in
     rw (digits-read s at (threeDigits n) [] d (omega arith) e (omega arith) refl) (three-worth n h)
 
-digit-back : (n : ℕ) → n < 10 → (48 + n % 10) % 16 ≡ n
-digit-back n h = omega arith
-
 -- ---- a place of one digit each
+record OneDigit (n : ℕ) : Type 0 where
+  written : decimal n ≡ (48 + n % 10) ∷ []
+  read : (48 + n % 10) % 16 ≡ n
+
+one-digit : (n : ℕ) → n < 10 → OneDigit n
+one-digit n h = record { written = decimal-small n h; read = omega arith }
+
 record Small (a : Place) : Type 0 where
-  m : a .m < 10
-  port : a .port < 10
+  m : OneDigit (a .m)
+  port : OneDigit (a .port)
 
 small : (a : Place) (m most : ℕ) → m < 10 → most < 10 → eqb (a .m) m && between 1 most (a .port) ≡ true → Small a
 small a m most hm hp e =
-    record {
-      m = omega (arith, eqb-true (a .m) m (and-left (eqb (a .m) m) (between 1 most (a .port)) e));
-      port = omega (arith, between-most 1 most (a .port) (and-right (eqb (a .m) m) (between 1 most (a .port)) e));
-    }
+    let is = eqb-true (a .m) m (and-left (eqb (a .m) m) (between 1 most (a .port)) e) in
+    let few = between-most 1 most (a .port) (and-right (eqb (a .m) m) (between 1 most (a .port)) e) in
+    record { m = one-digit (a .m) (omega arith); port = one-digit (a .port) (omega arith) }
 
 connector-small : (a : Place) → isConnector a ≡ true → Small a
 connector-small a e = small a 1 connectors (omega arith) (omega arith) e
@@ -68,46 +71,41 @@ relay-small a e = small a 2 relays (omega arith) (omega arith) e
 
 nowhere-small : (a : Place) → isNowhere a ≡ true → Small a
 nowhere-small a e =
-    record {
-      m = omega (arith, eqb-true (a .m) 0 (and-left (eqb (a .m) 0) (eqb (a .port) 0) e));
-      port = omega (arith, eqb-true (a .port) 0 (and-right (eqb (a .m) 0) (eqb (a .port) 0) e));
-    }
+    let m = eqb-true (a .m) 0 (and-left (eqb (a .m) 0) (eqb (a .port) 0) e) in
+    let port = eqb-true (a .port) 0 (and-right (eqb (a .m) 0) (eqb (a .port) 0) e) in
+    record { m = one-digit (a .m) (omega arith); port = one-digit (a .port) (omega arith) }
 
 -- ---- each line read back
 module _ (a : Place) (t : Small a) where
   state-back : (v : ℕ) → v < 1000000 → guessed (lineOf (State a v)) ≡ State a v
   unfolding lineOf guessed stateOrStop
   state-back v h =
-      rw (decimal-small (a .m) (t .m), decimal-small (a .port) (t .port), digit-back (a .m) (t .m), digit-back (a .port) (t .port))
-      (ap (State a) (value-back _ 10 v refl h))
+      rw (t .m .written, t .port .written, t .m .read, t .port .read) (ap (State a) (value-back _ 10 v refl h))
 
   complete-back : (v : ℕ) → v < 1000000 → guessed (lineOf (Complete a v)) ≡ Complete a v
   unfolding lineOf guessed
   complete-back v h =
-      rw (decimal-small (a .m) (t .m), decimal-small (a .port) (t .port), digit-back (a .m) (t .m), digit-back (a .port) (t .port))
-      (ap (Complete a) (value-back _ 15 v refl h))
+      rw (t .m .written, t .port .written, t .m .read, t .port .read) (ap (Complete a) (value-back _ 15 v refl h))
 
   busy-back : (v : ℕ) → v < 1000000 → guessed (lineOf (Busy a v)) ≡ Busy a v
   unfolding lineOf guessed
   busy-back v h =
-      rw (decimal-small (a .m) (t .m), decimal-small (a .port) (t .port), digit-back (a .m) (t .m), digit-back (a .port) (t .port))
-      (ap (Busy a) (value-back _ 11 v refl h))
+      rw (t .m .written, t .port .written, t .m .read, t .port .read) (ap (Busy a) (value-back _ 11 v refl h))
 
   stop-back : guessed (lineOf (Stop a)) ≡ Stop a
   unfolding lineOf guessed stateOrStop
-  stop-back = rw (decimal-small (a .m) (t .m), decimal-small (a .port) (t .port), digit-back (a .m) (t .m), digit-back (a .port) (t .port))
+  stop-back = rw (t .m .written, t .port .written, t .m .read, t .port .read)
 
   mode-back : (m : mode.Mode) → guessed (lineOf (Mode a m)) ≡ Mode a m
   unfolding lineOf guessed modeGuess modeAt
-  mode-back Ir = rw (decimal-small (a .m) (t .m), decimal-small (a .port) (t .port), digit-back (a .m) (t .m), digit-back (a .port) (t .port))
-  mode-back Sensor = rw (decimal-small (a .m) (t .m), decimal-small (a .port) (t .port), digit-back (a .m) (t .m), digit-back (a .port) (t .port))
-  mode-back IrBlaster = rw (decimal-small (a .m) (t .m), decimal-small (a .port) (t .port), digit-back (a .m) (t .m), digit-back (a .port) (t .port))
+  mode-back Ir = rw (t .m .written, t .port .written, t .m .read, t .port .read)
+  mode-back Sensor = rw (t .m .written, t .port .written, t .m .read, t .port .read)
+  mode-back IrBlaster = rw (t .m .written, t .port .written, t .m .read, t .port .read)
 
   error-back : (n : ℕ) → n < 1000 → guessed (lineOf (Error n a)) ≡ Error n a
   unfolding lineOf guessed
   error-back n h =
-      rw (decimal-small (a .m) (t .m), decimal-small (a .port) (t .port), digit-back (a .m) (t .m), digit-back (a .port) (t .port))
-      (ap (λ (k : ℕ). Error k a) (three-back _ 8 n refl h))
+      rw (t .m .written, t .port .written, t .m .read, t .port .read) (ap (λ (k : ℕ). Error k a) (three-back _ 8 n refl h))
 
 version-back : guessed (lineOf Version) ≡ Version
 unfolding lineOf guessed
@@ -173,7 +171,10 @@ one-heard (nothing none) (nothing none') = refl
 -- the reader hears every line
 pub reply-heard : (s : List ℕ) → Hears s (readReply s)
 unfolding readReply
-reply-heard s = by-test (writable (guessed s)) (λ e. rw e (compared e)) (λ e. rw e (nothing (λ r i. not-both (ap writable (is-guessed i) ∙ i .may) e)))
+reply-heard s =
+    by-test (writable (guessed s))
+    (λ e. rw e (compared e))
+    (λ e. rw e (nothing (λ r i. not-both (ap writable (is-guessed i) ∙ i .may) e)))
   where
     other : same (lineOf (guessed s)) s ≡ false → (r : Heard) → IsLine s r → ⊥
     other f r i =

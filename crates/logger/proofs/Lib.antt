@@ -1,5 +1,6 @@
 pub mod Loops
 pub mod Meant
-pub mod Texts
 pub mod Back
 pub mod Tallies
+pub mod Texts
+pub mod Counts

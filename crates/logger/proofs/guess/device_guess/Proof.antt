@@ -1,7 +1,7 @@
 -- `logger::guess::device_guess` meets its contract.
 use borrow.Author.Tests.{eq-eqb, ne-eqb}
-use Rattle.logger.specs.Guess.{deviceGuess}
 use borrow.Author.Needs.{needs}
+use Rattle.logger.specs.Guess.{deviceGuess}
 use Rattle.logger.proofs.guess.device_guess.Statement.{statement}
 use Rattle.logger.proofs.guess.device_guess.Tie as tie
 

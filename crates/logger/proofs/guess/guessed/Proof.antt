@@ -1,7 +1,7 @@
 -- `logger::guess::guessed` meets its contract.
 use borrow.Author.Tests.{eq-eqb, ne-eqb}
-use Rattle.logger.specs.Guess.{guessed}
 use borrow.Author.Needs.{needs}
+use Rattle.logger.specs.Guess.{guessed}
 use Rattle.logger.proofs.guess.guessed.Statement.{statement}
 use Rattle.logger.proofs.guess.guessed.Tie as tie
 
@@ -25,7 +25,13 @@ returns-2 : tie.Need-returns-2
 unfolding guessed
 returns-2 c =
     let b = c .before .before in
-    rw (← b .before .before .byte-at .ensures, ne-eqb _ _ (b .before .if1 .left), eq-eqb _ _ (b .if2 .taken), c .before .value-at .ensures, c .place-at .ensures)
+    rw (
+      ← b .before .before .byte-at .ensures,
+      ne-eqb _ _ (b .before .if1 .left),
+      eq-eqb _ _ (b .if2 .taken),
+      c .before .value-at .ensures,
+      c .place-at .ensures,
+    )
 
 place-at-requires-2 : tie.Need-place-at-requires-2
 place-at-requires-2 c κs = search needs
@@ -38,7 +44,14 @@ unfolding guessed
 returns-3 c =
     let b = c .before .before in
     let d = b .before .before in
-    rw (← d .before .byte-at .ensures, ne-eqb _ _ (d .if1 .left), ne-eqb _ _ (b .before .if2 .left), eq-eqb _ _ (b .if3 .taken), c .before .place-at2 .ensures, c .value-at2 .ensures)
+    rw (
+      ← d .before .byte-at .ensures,
+      ne-eqb _ _ (d .if1 .left),
+      ne-eqb _ _ (b .before .if2 .left),
+      eq-eqb _ _ (b .if3 .taken),
+      c .before .place-at2 .ensures,
+      c .value-at2 .ensures,
+    )
 
 place-at-requires-3 : tie.Need-place-at-requires-3
 place-at-requires-3 c κs = search needs
@@ -51,7 +64,15 @@ unfolding guessed
 returns-4 c =
     let b = c .before .before in
     let d = b .before .before in
-    rw (← d .before .before .byte-at .ensures, ne-eqb _ _ (d .before .if1 .left), ne-eqb _ _ (d .if2 .left), ne-eqb _ _ (b .before .if3 .left), eq-eqb _ _ (b .if4 .taken), c .before .place-at3 .ensures, c .value-at3 .ensures)
+    rw (
+      ← d .before .before .byte-at .ensures,
+      ne-eqb _ _ (d .before .if1 .left),
+      ne-eqb _ _ (d .if2 .left),
+      ne-eqb _ _ (b .before .if3 .left),
+      eq-eqb _ _ (b .if4 .taken),
+      c .before .place-at3 .ensures,
+      c .value-at3 .ensures,
+    )
 
 mode-guess-requires : tie.Need-mode-guess-requires
 mode-guess-requires c κs = search needs
@@ -61,7 +82,15 @@ unfolding guessed
 returns-5 c =
     let b = c .before in
     let d = b .before .before in
-    rw (← d .before .before .before .byte-at .ensures, ne-eqb _ _ (d .before .before .if1 .left), ne-eqb _ _ (d .before .if2 .left), ne-eqb _ _ (d .if3 .left), ne-eqb _ _ (b .before .if4 .left), eq-eqb _ _ (b .if5 .taken), c .mode-guess .ensures)
+    rw (
+      ← d .before .before .before .byte-at .ensures,
+      ne-eqb _ _ (d .before .before .if1 .left),
+      ne-eqb _ _ (d .before .if2 .left),
+      ne-eqb _ _ (d .if3 .left),
+      ne-eqb _ _ (b .before .if4 .left),
+      eq-eqb _ _ (b .if5 .taken),
+      c .mode-guess .ensures,
+    )
 
 device-guess-requires : tie.Need-device-guess-requires
 device-guess-requires c κs = search needs
@@ -71,19 +100,46 @@ unfolding guessed
 returns-6 c =
     let b = c .before in
     let d = b .before .before .before in
-    rw (← d .before .before .before .byte-at .ensures, ne-eqb _ _ (d .before .before .if1 .left), ne-eqb _ _ (d .before .if2 .left), ne-eqb _ _ (d .if3 .left), ne-eqb _ _ (b .before .before .if4 .left), ne-eqb _ _ (b .before .if5 .left), eq-eqb _ _ (b .if6 .taken), c .device-guess .ensures)
+    rw (
+      ← d .before .before .before .byte-at .ensures,
+      ne-eqb _ _ (d .before .before .if1 .left),
+      ne-eqb _ _ (d .before .if2 .left),
+      ne-eqb _ _ (d .if3 .left),
+      ne-eqb _ _ (b .before .before .if4 .left),
+      ne-eqb _ _ (b .before .if5 .left),
+      eq-eqb _ _ (b .if6 .taken),
+      c .device-guess .ensures,
+    )
 
 returns-7 : tie.Need-returns-7
 unfolding guessed
 returns-7 c =
     let d = c .before .before .before .before in
-    rw (← d .before .before .before .byte-at .ensures, ne-eqb _ _ (d .before .before .if1 .left), ne-eqb _ _ (d .before .if2 .left), ne-eqb _ _ (d .if3 .left), ne-eqb _ _ (c .before .before .before .if4 .left), ne-eqb _ _ (c .before .before .if5 .left), ne-eqb _ _ (c .before .if6 .left), eq-eqb _ _ (c .if7 .taken))
+    rw (
+      ← d .before .before .before .byte-at .ensures,
+      ne-eqb _ _ (d .before .before .if1 .left),
+      ne-eqb _ _ (d .before .if2 .left),
+      ne-eqb _ _ (d .if3 .left),
+      ne-eqb _ _ (c .before .before .before .if4 .left),
+      ne-eqb _ _ (c .before .before .if5 .left),
+      ne-eqb _ _ (c .before .if6 .left),
+      eq-eqb _ _ (c .if7 .taken),
+    )
 
 returns-8 : tie.Need-returns-8
 unfolding guessed
 returns-8 c =
     let d = c .before .before .before .before in
-    rw (← d .before .before .before .byte-at .ensures, ne-eqb _ _ (d .before .before .if1 .left), ne-eqb _ _ (d .before .if2 .left), ne-eqb _ _ (d .if3 .left), ne-eqb _ _ (c .before .before .before .if4 .left), ne-eqb _ _ (c .before .before .if5 .left), ne-eqb _ _ (c .before .if6 .left), ne-eqb _ _ (c .if7 .left))
+    rw (
+      ← d .before .before .before .byte-at .ensures,
+      ne-eqb _ _ (d .before .before .if1 .left),
+      ne-eqb _ _ (d .before .if2 .left),
+      ne-eqb _ _ (d .if3 .left),
+      ne-eqb _ _ (c .before .before .before .if4 .left),
+      ne-eqb _ _ (c .before .before .if5 .left),
+      ne-eqb _ _ (c .before .if6 .left),
+      ne-eqb _ _ (c .if7 .left),
+    )
 
 pub guessed-spec : {M : Type 1} → statement M
 guessed-spec =

@@ -1,7 +1,7 @@
 -- `logger::guess::mode_guess` meets its contract.
 use mathlib.Core.Path.{sym, _∙_}
-use Rattle.logger.specs.Guess.{modeGuess}
 use borrow.Author.Needs.{needs}
+use Rattle.logger.specs.Guess.{modeGuess}
 use Rattle.logger.proofs.guess.mode_guess.Statement.{statement}
 use Rattle.logger.proofs.guess.mode_guess.Tie as tie
 

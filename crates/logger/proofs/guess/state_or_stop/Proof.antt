@@ -1,7 +1,7 @@
 -- `logger::guess::state_or_stop` meets its contract.
 use borrow.Author.Tests.{eq-eqb, ne-eqb}
-use Rattle.logger.specs.Guess.{stateOrStop}
 use borrow.Author.Needs.{needs}
+use Rattle.logger.specs.Guess.{stateOrStop}
 use Rattle.logger.proofs.guess.state_or_stop.Statement.{statement}
 use Rattle.logger.proofs.guess.state_or_stop.Tie as tie
 
@@ -16,7 +16,13 @@ value-at-requires c κs = search needs
 
 returns : tie.Need-returns
 unfolding stateOrStop
-returns c = rw (← c .before .before .before .byte-at .ensures, eq-eqb _ _ (c .before .before .if1 .taken), c .before .place-at .ensures, c .value-at .ensures)
+returns c =
+    rw (
+      ← c .before .before .before .byte-at .ensures,
+      eq-eqb _ _ (c .before .before .if1 .taken),
+      c .before .place-at .ensures,
+      c .value-at .ensures,
+    )
 
 place-at-requires-2 : tie.Need-place-at-requires-2
 place-at-requires-2 c κs = search needs

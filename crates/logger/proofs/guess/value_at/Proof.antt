@@ -1,7 +1,7 @@
 -- `logger::guess::value_at` meets its contract.
 use mathlib.Core.Path.{sym, _∙_}
-use Rattle.logger.specs.Guess.{valueAt}
 use borrow.Author.Needs.{needs}
+use Rattle.logger.specs.Guess.{valueAt}
 use Rattle.logger.proofs.guess.value_at.Statement.{statement}
 use Rattle.logger.proofs.guess.value_at.Tie as tie
 

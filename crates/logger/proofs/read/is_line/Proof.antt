@@ -1,9 +1,9 @@
 -- `logger::read::is_line` meets its contract.
 use mathlib.Core.Path.{refl, _∙_}
+use borrow.Author.Needs.{needs}
 use Rattle.laws.proofs.Choice.{not-both}
 use Rattle.logger.specs.Heard.{writable, lineOf}
 use Rattle.logger.proofs.Meant.{line-is}
-use borrow.Author.Needs.{needs}
 use Rattle.logger.proofs.read.is_line.Statement.{statement}
 use Rattle.logger.proofs.read.is_line.Tie as tie
 

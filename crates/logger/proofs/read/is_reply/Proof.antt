@@ -1,10 +1,10 @@
 -- `logger::read::is_reply` meets its contract.
-use mathlib.Core.Path.{refl, sym, _∙_}
+use mathlib.Core.Path.{sym, _∙_}
 use native.Mathlib.Omega.{arith}
+use borrow.Author.Needs.{needs}
 use lib.Seq.{length-take-le}
 use Rattle.laws.proofs.Put.{put-length}
 use Rattle.logger.proofs.Texts.{put-some, put-line}
-use borrow.Author.Needs.{needs}
 use Rattle.logger.proofs.read.is_reply.Statement.{statement}
 use Rattle.logger.proofs.read.is_reply.Tie as tie
 
@@ -21,7 +21,9 @@ array-share-prefix-buf : tie.Need-array-share-prefix-buf
 array-share-prefix-buf c = search needs
 
 slice-aggregate-is-word : tie.Need-slice-aggregate-is-word
-slice-aggregate-is-word c = sym (length-take-le _ _ (omega (arith, put-length (c .before .before .put-reply .ensures), c .before .before .put-reply .ensures .room)))
+slice-aggregate-is-word c =
+    let put = c .before .before .put-reply .ensures in
+    sym (length-take-le _ _ (omega (arith, put-length put, put .room)))
 
 is-word-requires : tie.Need-is-word-requires
 is-word-requires c κs = search needs

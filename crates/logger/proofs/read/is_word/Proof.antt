@@ -2,8 +2,8 @@
 use Prim.Native.Nat.{_-_}
 use mathlib.Core.Path.{refl}
 use native.Mathlib.Omega.{arith}
-use lib.ListN.{length}
 use borrow.Author.Needs.{needs}
+use lib.ListN.{length}
 use Rattle.logger.proofs.Loops.{Alike, other-length, alike-more, alike-other, alike-end}
 use Rattle.logger.proofs.read.is_word.Statement.{statement}
 use Rattle.logger.proofs.read.is_word.Tie as tie

@@ -1,7 +1,7 @@
 -- `logger::read::read_reply` meets its contract.
 use mathlib.Core.Path.{sym, _∙_}
-use Rattle.logger.proofs.Texts.{hears-unwritable, hears-other, hears-same}
 use borrow.Author.Needs.{needs}
+use Rattle.logger.proofs.Texts.{hears-unwritable, hears-other, hears-same}
 use Rattle.logger.proofs.read.read_reply.Statement.{statement}
 use Rattle.logger.proofs.read.read_reply.Tie as tie
 
@@ -17,12 +17,14 @@ is-line-requires c κs = sym (c .before .writable .ensures) ∙ c .if1 .taken
 returns : tie.Need-returns
 returns c =
     let b = c .before .before in
-    hears-same _ _ (b .before .before .guessed .ensures) (sym (b .before .writable .ensures) ∙ b .if1 .taken) (sym (c .before .is-line .ensures) ∙ c .if2 .taken)
+    hears-same _ _ (b .before .before .guessed .ensures)
+    (sym (b .before .writable .ensures) ∙ b .if1 .taken) (sym (c .before .is-line .ensures) ∙ c .if2 .taken)
 
 returns-2 : tie.Need-returns-2
 returns-2 c =
     let b = c .before .before in
-    hears-other _ _ (b .before .before .guessed .ensures) (sym (b .before .writable .ensures) ∙ b .if1 .taken) (sym (c .before .is-line .ensures) ∙ c .if2 .left)
+    hears-other _ _ (b .before .before .guessed .ensures)
+    (sym (b .before .writable .ensures) ∙ b .if1 .taken) (sym (c .before .is-line .ensures) ∙ c .if2 .left)
 
 returns-3 : tie.Need-returns-3
 returns-3 c = hears-unwritable _ _ (c .before .before .guessed .ensures) (sym (c .before .writable .ensures) ∙ c .if1 .left)

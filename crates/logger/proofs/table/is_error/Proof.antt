@@ -21,7 +21,11 @@ is-relay-requires : tie.Need-is-relay-requires
 is-relay-requires c κs = search needs
 
 returns-2 : tie.Need-returns-2
-returns-2 c = rw (sym (c .before .before .before .is-nowhere .ensures) ∙ c .before .before .if1 .left, sym (c .before .is-relay .ensures) ∙ c .if2 .taken)
+returns-2 c =
+    rw (
+      sym (c .before .before .before .is-nowhere .ensures) ∙ c .before .before .if1 .left,
+      sym (c .before .is-relay .ensures) ∙ c .if2 .taken,
+    )
 
 is-connector-requires : tie.Need-is-connector-requires
 is-connector-requires c κs = search needs

@@ -1,9 +1,9 @@
 -- `logger::table::one_of` meets its contract.
 use Prim.Native.Nat.{_-_}
 use mathlib.Core.Path.{_≡_, refl}
+use borrow.Author.Needs.{needs}
 use lib.ListN.{length, drop}
 use Rattle.laws.specs.Checks.{oneOf}
-use borrow.Author.Needs.{needs}
 use Rattle.logger.proofs.Loops.{other-more, other-hit, other-end}
 use Rattle.logger.proofs.table.one_of.Statement.{statement}
 use Rattle.logger.proofs.table.one_of.Tie as tie

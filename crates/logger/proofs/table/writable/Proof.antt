@@ -1,8 +1,8 @@
 -- `logger::table::writable` meets its contract.
 use mathlib.Core.Path.{sym, _∙_}
 use borrow.Author.Tests.{le-leb, lt-leb}
-use Rattle.logger.specs.Heard.{writable}
 use borrow.Author.Needs.{needs}
+use Rattle.logger.specs.Heard.{writable}
 use Rattle.logger.proofs.table.writable.Statement.{statement}
 use Rattle.logger.proofs.table.writable.Tie as tie
 

@@ -1,3 +1,4 @@
 pub mod Faults
 pub mod Composing
 pub mod Sending
+pub mod Counts

@@ -2,8 +2,9 @@
 use Prim.Native.Nat.{ℕ, _<_, _^_}
 use mathlib.Core.Path.{_≡_}
 use mathlib.Core.Bool.{cond}
-use mathlib.Core.List.{List, [], _∷_, map}
+use mathlib.Core.List.{List, _∷_, map}
 use lib.Dec.{eqb}
+use lib.ListN.{length, getD}
 use Rattle.laws.specs.Bytes.{bytes}
 use Rattle.words.specs.Decimal.{decimal}
 use Rattle.words.specs.declared.Pair.{Pair}
@@ -51,6 +52,19 @@ WideWish (GetMode a) = Wide (a .m) × Wide (a .port)
 WideWish (SetState a state) = Wide (a .m) × Wide (a .port) × Wide state
 WideWish (GetState a) = Wide (a .m) × Wide (a .port)
 WideWish (Stop a) = Wide (a .m) × Wide (a .port)
+
+abbrev pub EachWide : List ℕ → Type 0
+EachWide counts = (i : ℕ) → i < length counts → Wide (getD counts i 0)
+
+-- so are those of a sendir, and its counts
+pub record WideCommand (c : Command) (counts : List ℕ) : Type 0 where
+  pub m : Wide (c .place .m)
+  pub port : Wide (c .place .port)
+  pub id : Wide (c .fields .id)
+  pub freq : Wide (c .fields .freq)
+  pub repeat : Wide (c .fields .repeat)
+  pub offset : Wide (c .fields .offset)
+  pub each : EachWide counts
 
 -- a fault as the hub reads one: 002 and 003 name no place
 abbrev pub faultFor : ℕ → Place → Request

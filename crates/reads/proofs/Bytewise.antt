@@ -40,7 +40,7 @@ letter-is b = between-is 65 90 b
 
 module _ (freq : ℕ) where
   -- digits are a count where they are few and the number that they are is a legal one
-  count-is : (b : ℕ) (ds : List ℕ) → all isDigit (b ∷ ds) ≡ true
+  pub count-is : (b : ℕ) (ds : List ℕ) → all isDigit (b ∷ ds) ≡ true
       → isCount freq (b ∷ ds) ≡ leb (suc (length ds)) 6 && legal freq (worth 0 (b ∷ ds))
   unfolding legal isCount within isNumber
   count-is b ds e =
@@ -50,14 +50,14 @@ module _ (freq : ℕ) where
       (λ f. rw f))
 
   -- ---- a count, digit by digit
-  on-run : (ps : List Pair) (ds x : List ℕ) → reads freq ps (on ds) x ≡ reads freq ps (on (ds ++ run x)) (drop (length (run x)) x)
+  pub on-run : (ps : List Pair) (ds x : List ℕ) → reads freq ps (on ds) x ≡ reads freq ps (on (ds ++ run x)) (drop (length (run x)) x)
   on-run ps ds [] = rw append-nil
   on-run ps ds (b ∷ x) =
       by-test (isDigit b)
       (λ e. rw e (on-run ps (ds ++ (b ∷ [])) x ∙ rw append-assoc))
       (λ e. rw (e, append-nil, e))
 
-  off-run : (ps : List Pair) (n : ℕ) (ds x : List ℕ)
+  pub off-run : (ps : List Pair) (n : ℕ) (ds x : List ℕ)
       → reads freq ps (off n ds) x ≡ reads freq ps (off n (ds ++ run x)) (drop (length (run x)) x)
   off-run ps n ds [] = rw append-nil
   off-run ps n ds (b ∷ x) =

@@ -1,4 +1,4 @@
--- Counts spelled one by one, as document 01's own reading takes them: what is wrong with them is what the composer says is wrong, and else they are their pairs.
+-- Counts spelled one by one, as document 01's own reading takes them: it finds the fault that the composer finds, and else their pairs.
 use Prim.Native.Nat.{ℕ, zero, suc, _+_, _*_, _%_, _≤_, _<_}
 use mathlib.Core.Path.{_≡_, refl, sym, _∙_}
 use mathlib.Core.Bool.{true, false, cond, not}

@@ -53,10 +53,11 @@ WideWish (SetState a state) = Wide (a .m) × Wide (a .port) × Wide state
 WideWish (GetState a) = Wide (a .m) × Wide (a .port)
 WideWish (Stop a) = Wide (a .m) × Wide (a .port)
 
+-- so is each of some counts
 abbrev pub EachWide : List ℕ → Type 0
 EachWide counts = (i : ℕ) → i < length counts → Wide (getD counts i 0)
 
--- so are those of a sendir, and its counts
+-- and all of a sendir's
 pub record WideCommand (c : Command) (counts : List ℕ) : Type 0 where
   pub m : Wide (c .place .m)
   pub port : Wide (c .place .port)

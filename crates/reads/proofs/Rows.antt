@@ -53,13 +53,13 @@ use Rattle.reads.proofs.Cursor.{word-is, isMode, modeIn, word-back, cou
 use Rattle.reads.proofs.Bytewise.{code-bytewise}
 
 -- ---- the module in the table, as a range
-one-module : (k m : ℕ) → eqb m k ≡ between k k m
+pub one-module : (k m : ℕ) → eqb m k ≡ between k k m
 one-module k m =
     same-test (eqb m k) (between k k m)
     (λ e. between-true k k m (omega (arith, eqb-true m k e)) (omega (arith, eqb-true m k e)))
     (λ e. eq-eqb m k (omega (arith, between-least k k m e, between-most k k m e)))
 
-two-modules : (m : ℕ) → eqb m 1 || eqb m 2 ≡ between 1 2 m
+pub two-modules : (m : ℕ) → eqb m 1 || eqb m 2 ≡ between 1 2 m
 two-modules m =
     by-test (eqb m 1)
     (λ e. rw e (sym (between-true 1 2 m (omega (arith, eqb-true m 1 e)) (omega (arith, eqb-true m 1 e)))))
@@ -69,7 +69,7 @@ two-modules m =
     (λ f. eq-eqb m 2 (omega (arith, between-least 1 2 m f, between-most 1 2 m f, eqb-false m 1 e)))))
 
 -- no module has as many ports as a number of over six digits counts as
-ports-below : (m : ℕ) → portsOf m < beyond
+pub ports-below : (m : ℕ) → portsOf m < beyond
 ports-below m = cond-case (λ (n : ℕ). n < beyond) (eqb m 1) connectors relays (λ e. omega arith) (λ e. omega arith)
 
 -- ---- a number in a range

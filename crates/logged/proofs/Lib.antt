@@ -1,1 +1,4 @@
 pub mod Said
+pub mod Lines
+pub mod Occasions
+pub mod Exact

@@ -18,6 +18,7 @@ use Rattle.logger.specs.Heard.{IsLine}
 use Rattle.logged.specs.Written.{asker, forOne, noticesTo, writtenBy, writtenTo, Writes}
 use Rattle.logged.proofs.Said.{Speaks, alone, Notices, none, more, AnswerSpeaks, answer-speaks}
 use Rattle.logged.proofs.Lines.{Lines, done, next, cut-of}
+use Rattle.logged.proofs.Occasions.{writable-written}
 
 -- ---- all that is written is spoken
 
@@ -68,3 +69,26 @@ line-among (x ∷ before) after (next r i n) = line-among before after n
 
 pub written-writable : {s : List ℕ} → Writes (said []) s → (r : Heard) × IsLine s r
 written-writable w = line-among (w .before) (w .after) (rw (w .among) at (spoken-lines (all-spoken (w .connection) [] (w .calls))))
+
+-- ---- the theorem
+
+pub exact : (s : List ℕ) → ((r : Heard) × IsLine s r) ↔ Writes (said []) s
+exact s = (λ x. rw (x .1 .is) at (writable-written (x .0) (x .1 .may)), written-writable)
+
+-- where two tell the same, they write the same
+same-writes : {f g : List Call → List Said} {s : List ℕ} → ((l : List Call) → f l ≡ g l) → Writes g s → Writes f s
+same-writes same w =
+    record {
+      calls = w .calls;
+      connection = w .connection;
+      before = w .before;
+      after = w .after;
+      among = ap (λ (x : List Said). divided [] (flatten (writtenTo (w .connection) (w .calls) x)) .parts) (same (w .calls)) ∙ w .among;
+    }
+
+-- and of the hub, whatever its store holds at first
+pub exact-hub : (store : List ℕ) → length store ≡ 1560 → (s : List ℕ) → ((r : Heard) × IsLine s r) ↔ Writes (run freshHub store) s
+exact-hub store size s = (
+  λ x. same-writes (from-fresh store size) (exact s .0 x),
+  λ w. exact s .1 (same-writes (λ l. sym (from-fresh store size l)) w),
+)

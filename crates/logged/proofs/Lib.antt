@@ -1,4 +1,5 @@
 pub mod Said
 pub mod Lines
+pub mod Ids
 pub mod Occasions
 pub mod Exact

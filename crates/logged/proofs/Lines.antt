@@ -1,9 +1,10 @@
--- The line of a reply has no CR in it, so a text that is spoken is cut into lines of replies that a hub can write.
+-- The line of a reply has no CR in it, so a text that is spoken is cut into lines of replies that a hub can write; and a text that is all that
+-- a history writes to a connection is a line that is written.
 use Prim.Native.Nat.{ℕ, _+_, _/_, _%_}
 use Prim.Native.String.{String}
-use mathlib.Core.Path.{_≡_, refl}
+use mathlib.Core.Path.{_≡_, refl, ap, _∙_}
 use mathlib.Core.Bool.{true}
-use mathlib.Core.List.{List, [], _∷_, _++_}
+use mathlib.Core.List.{List, [], _∷_, _++_, flatten, append-nil}
 use native.Mathlib.Omega.{arith}
 use borrow.Author.Tests.{ne-eqb}
 use Rattle.laws.specs.Bytes.{bytes}
@@ -18,13 +19,15 @@ use Rattle.request.specs.declared.mode.Mode as mode
 use Rattle.request.specs.declared.mode.Mode.the-variants.{Ir, Sensor, IrBlaster}
 use Rattle.request.specs.Mode.{modeWord}
 use Rattle.meaning.specs.Line.{addressed}
-use Rattle.lines.specs.Cut.{divided, noCr}
+use Rattle.meaning.specs.Table.{Call, said}
+use Rattle.lines.specs.Cut.{Divided, divided, noCr}
 use Rattle.lines.proofs.Cutting.{divided-one}
 use Rattle.logger.specs.declared.Device.{Device}
 use Rattle.logger.specs.declared.Device.the-variants.{Ethernet, Infrared, Relays, End}
 use Rattle.logger.specs.declared.Heard.{Heard}
 use Rattle.logger.specs.declared.Heard.the-variants.{NotReply, State, Complete, Busy, Stop, Mode, Error, Version, Listed}
 use Rattle.logger.specs.Heard.{at, lineOf, writable, IsLine}
+use Rattle.logged.specs.Written.{writtenTo, Writes}
 use Rattle.logged.proofs.Said.{Speaks, alone, devices}
 
 -- ---- no CR in a line
@@ -71,7 +74,7 @@ line-plain (Listed End) = refl
 
 -- ---- a text is cut into its lines
 
-pub one-line : (r : Heard) → divided [] (lineOf r ++ (13 ∷ [])) ≡ record { parts = lineOf r ∷ []; rest = [] }
+one-line : (r : Heard) → divided [] (lineOf r ++ (13 ∷ [])) ≡ record { parts = lineOf r ∷ []; rest = [] }
 one-line r = divided-one (lineOf r ∷ []) [] (rw (line-plain r)) refl
 
 -- each is the line of a reply that a hub can write
@@ -95,3 +98,20 @@ cut-of devices =
       whole = refl;
       lines = next (Listed Ethernet) (told Ethernet) (next (Listed Infrared) (told Infrared) (next (Listed Relays) (told Relays) (next (Listed End) (told End) done)));
     }
+
+-- ---- a history that writes one line alone
+
+module _ (calls : List Call) (connection : ℕ) (r : Heard) where
+  pub alone-written : writtenTo connection calls (said [] calls) ≡ (lineOf r ++ (13 ∷ [])) ∷ [] → Writes (said []) (lineOf r)
+  unfolding flatten
+  alone-written e =
+      record {
+        calls = calls;
+        connection = connection;
+        before = [];
+        after = [];
+        among =
+            ap (λ (l : List (List ℕ)). divided [] (flatten l) .parts) e
+            ∙ ap (λ (words : List ℕ). divided [] words .parts) (append-nil (lineOf r ++ (13 ∷ [])))
+            ∙ ap (λ (d : Divided). d .parts) (one-line r);
+      }

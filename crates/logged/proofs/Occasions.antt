@@ -1,11 +1,12 @@
 -- An occasion for each reply that a hub can write: a history in which its line is all that is written to a connection.
-use Prim.Native.Nat.{ℕ, zero, suc}
+use Prim.Native.Nat.{ℕ, zero, suc, _≤_}
 use Prim.Native.String.{String}
-use mathlib.Core.Path.{_≡_, refl, sym, ap, _∙_}
+use mathlib.Core.Path.{_≡_, refl, sym, ap, _∙_, subst}
 use mathlib.Core.Bool.{Bool, true, false, cond, not, _&&_, _||_}
-use mathlib.Core.List.{List, [], _∷_, _++_, flatten, append-nil}
-use borrow.Author.Tests.{eqb-true}
-use lib.Dec.{eqb}
+use mathlib.Core.List.{List, [], _∷_, _++_, flatten}
+use native.Mathlib.Omega.{arith}
+use borrow.Author.Tests.{eqb-true, leb-true}
+use lib.Dec.{eqb, leb}
 use Rattle.laws.specs.Bytes.{bytes}
 use Rattle.laws.specs.Checks.{_⇒_, first, between, oneOf}
 use Rattle.laws.specs.Lists.{all, same, times}
@@ -19,35 +20,21 @@ use Rattle.request.specs.declared.Place.{Place}
 use Rattle.request.specs.declared.mode.Mode as mode
 use Rattle.request.specs.declared.mode.Mode.the-variants.{Ir, Sensor, IrBlaster}
 use Rattle.request.specs.Place.{placeOf, nowhere}
-use Rattle.request.specs.Mode.{modeWord}
+use Rattle.request.specs.Mode.{modeWord, mayHave}
 use Rattle.meaning.specs.Line.{isNumber, within, isAddress, isCount, codeIn}
 use Rattle.meaning.specs.Time.{total, done, complete, started}
 use Rattle.meaning.specs.Log.{onAir}
 use Rattle.meaning.specs.Table.{Call, line, overlong, reading, said, set-IR, get-IR, setstate, getstate, sendir, stopir, request}
 use Rattle.theorems.specs.Occasion.{unaddressed, addressed}
-use Rattle.lines.specs.Cut.{Divided, divided}
+use Rattle.lines.specs.Cut.{divided}
+use Rattle.logger.specs.declared.Device.{Device}
+use Rattle.logger.specs.declared.Device.the-variants.{Ethernet, Infrared, Relays, End}
 use Rattle.logger.specs.declared.Heard.{Heard}
 use Rattle.logger.specs.declared.Heard.the-variants.{NotReply, State, Complete, Busy, Stop, Mode, Error, Version, Listed}
-use Rattle.logger.specs.Heard.{lineOf, writable}
+use Rattle.logger.specs.Heard.{deviceLine, lineOf, isNowhere, isConnector, isRelay, writable}
 use Rattle.logged.specs.Written.{writtenTo, Writes}
-use Rattle.logged.proofs.Lines.{one-line}
-
--- ---- a history that writes one line alone
-
-module _ (calls : List Call) (connection : ℕ) (r : Heard) where
-  pub alone-written : writtenTo connection calls (said [] calls) ≡ (lineOf r ++ (13 ∷ [])) ∷ [] → Writes (said []) (lineOf r)
-  unfolding flatten
-  alone-written e =
-      record {
-        calls = calls;
-        connection = connection;
-        before = [];
-        after = [];
-        among =
-            ap (λ (l : List (List ℕ)). divided [] (flatten l) .parts) e
-            ∙ ap (λ (words : List ℕ). divided [] words .parts) (append-nil (lineOf r ++ (13 ∷ [])))
-            ∙ ap (λ (d : Divided). d .parts) (one-line r);
-      }
+use Rattle.logged.proofs.Lines.{alone-written}
+use Rattle.logged.proofs.Ids.{each-port, busy-written, complete-written}
 
 -- ---- occasions of all replies but those with an id and the devices
 
@@ -140,3 +127,85 @@ tables =
       stops = refl;
       version = refl;
     }
+
+-- ---- so each reply that is writable is written
+
+each-place : (m : ℕ) (test : Place → Bool) → all (λ p. test (placeOf m p)) ports ≡ true → (a : Place)
+    → eqb (a .m) m && between 1 connectors (a .port) ≡ true → test a ≡ true
+each-place m test e a is =
+    ap (λ (k : ℕ). test (placeOf k (a .port))) (eqb-true (a .m) m (and-left (eqb (a .m) m) _ is))
+    ∙ one-of-all (λ p. test (placeOf m p)) ports (a .port) e
+    (each-port (λ p. oneOf ports p ≡ true) refl refl refl (a .port) (and-right (eqb (a .m) m) _ is))
+
+zero-or-one : (test : ℕ → Bool) → test 0 && test 1 ≡ true → (s : ℕ) → leb s 1 ≡ true → test s ≡ true
+zero-or-one test e zero small = and-left (test 0) (test 1) e
+zero-or-one test e (suc zero) small = and-right (test 0) (test 1) e
+zero-or-one test e (suc (suc s)) small = absurd (omega (arith, leb-true (suc (suc s)) 1 small))
+
+state-shown : (a : Place) (s : ℕ) → writable (State a s) ≡ true → shown (State a s) ≡ true
+unfolding writable
+state-shown a s e =
+    let small = and-left (leb s 1) (isRelay a || isConnector a) e in
+    let there = and-right (leb s 1) (isRelay a || isConnector a) e in
+    by-test (isRelay a)
+    (λ t. zero-or-one (λ v. shown (State a v)) (each-place 2 (λ b. shown (State b 0) && shown (State b 1)) (tables .relays) a t) s small)
+    (λ t. zero-or-one (λ v. shown (State a v)) (each-place 1 (λ b. shown (State b 0) && shown (State b 1)) (tables .contacts) a (rw t at there)) s small)
+
+error-shown : (n : ℕ) (a : Place) → writable (Error n a) ≡ true → shown (Error n a) ≡ true
+unfolding writable
+error-shown n a e =
+    by-test (isNowhere a)
+    (λ t.
+    let m = eqb-true (a .m) 0 (and-left (eqb (a .m) 0) _ t) in
+    let port = eqb-true (a .port) 0 (and-right (eqb (a .m) 0) _ t) in
+    let is : a ≡ nowhere = λ i. record { m = m i; port = port i } in
+    ap (λ (b : Place). shown (Error n b)) is ∙ one-of-all (λ k. shown (Error k nowhere)) unaddressed n (tables .unaddressedErrors) (rw t at e))
+    λ t.
+    by-test (isRelay a)
+    (λ u.
+    let f : eqb n 23 ≡ true = rw (t, u) at e in
+    rw (eqb-true n 23 f) (each-place 2 (λ b. shown (Error 23 b)) (tables .relayErrors) a u))
+    λ u.
+    by-test (isConnector a)
+    (λ v.
+    let f : cond (eqb n 14) (not (eqb (a .port) 3)) (oneOf addressed n) ≡ true = rw (t, u, v) at e in
+    one-of-all (λ k. shown (Error k a)) addressed n (each-place 1 (λ b. all (λ k. shown (Error k b)) addressed) (tables .errors) a v)
+    (by-test (eqb n 14) (λ w. rw (eqb-true n 14 w)) (λ w. rw w (rw w at f))))
+    (λ v. not-both (rw (t, u, v) at e) refl)
+
+-- the devices are written all four
+devices-written : (before after : List (List ℕ)) (d : Device)
+    → before ++ (deviceLine d ∷ after) ≡ deviceLine Ethernet ∷ deviceLine Infrared ∷ deviceLine Relays ∷ deviceLine End ∷ []
+    → Writes (said []) (lineOf (Listed d))
+unfolding lineOf flatten request
+devices-written before after d e =
+    let call = line 1 128 (bytes "getdevices") in
+    let told : divided [] (flatten (writtenTo 1 (call ∷ []) (said [] (call ∷ [])))) .parts
+    ≡ deviceLine Ethernet ∷ deviceLine Infrared ∷ deviceLine Relays ∷ deviceLine End ∷ [] = refl in
+    record { calls = call ∷ []; connection = 1; before = before; after = after; among = told ∙ sym e }
+
+device-written : (d : Device) → Writes (said []) (lineOf (Listed d))
+device-written Ethernet = devices-written [] (deviceLine Infrared ∷ deviceLine Relays ∷ deviceLine End ∷ []) Ethernet refl
+device-written Infrared = devices-written (deviceLine Ethernet ∷ []) (deviceLine Relays ∷ deviceLine End ∷ []) Infrared refl
+device-written Relays = devices-written (deviceLine Ethernet ∷ deviceLine Infrared ∷ []) (deviceLine End ∷ []) Relays refl
+device-written End = devices-written (deviceLine Ethernet ∷ deviceLine Infrared ∷ deviceLine Relays ∷ []) [] End refl
+
+-- an id, of a connector
+id-written : (f : Place → Heard) (a : Place) (id : ℕ) → leb id 65535 && isConnector a ≡ true
+    → ((p : ℕ) → between 1 connectors p ≡ true → id ≤ 65535 → Writes (said []) (lineOf (f (placeOf 1 p)))) → Writes (said []) (lineOf (f a))
+id-written f a id e written =
+    let there = and-right (leb id 65535) (isConnector a) e in
+    let w = written (a .port) (and-right (eqb (a .m) 1) _ there) (leb-true id 65535 (and-left (leb id 65535) (isConnector a) e)) in
+    subst (λ (m : ℕ). Writes (said []) (lineOf (f (placeOf m (a .port))))) (sym (eqb-true (a .m) 1 (and-left (eqb (a .m) 1) _ there))) w
+
+pub writable-written : (r : Heard) → writable r ≡ true → Writes (said []) (lineOf r)
+unfolding writable
+writable-written NotReply e = not-both e refl
+writable-written (State a s) e = shown-written (State a s) e (state-shown a s e)
+writable-written (Complete a id) e = id-written (λ b. Complete b id) a id e (λ p port small. complete-written p port id small)
+writable-written (Busy a id) e = id-written (λ b. Busy b id) a id e (λ p port small. busy-written p port id small)
+writable-written (Stop a) e = shown-written (Stop a) e (each-place 1 (λ b. shown (Stop b)) (tables .stops) a e)
+writable-written (Mode a m) e = shown-written (Mode a m) e (each-place 1 (λ b. shown (Mode b m)) (tables .modes m) a (and-left (isConnector a) (mayHave (a .port) m) e))
+writable-written (Error n a) e = shown-written (Error n a) e (error-shown n a e)
+writable-written Version e = shown-written Version e (tables .version)
+writable-written (Listed d) e = device-written d

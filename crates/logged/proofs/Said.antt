@@ -62,7 +62,7 @@ AnswerSpeaks (replied words told) = Speaks words
 spoken : (r : Heard) {words : List ℕ} → writable r ≡ true → words ≡ lineOf r ++ (13 ∷ []) → Speaks words
 spoken r e f = rw f (alone r e)
 
-with-last : (word : String) (a : Place) (last : List ℕ) → text.line word (a .m) (a .port) last ≡ at word a last ++ (13 ∷ [])
+pub with-last : (word : String) (a : Place) (last : List ℕ) → text.line word (a .m) (a .port) last ≡ at word a last ++ (13 ∷ [])
 with-last word a last = sym (append-assoc (addressed word (a .m) (a .port)) (bytes "," ++ last) (13 ∷ []))
 
 error-speaks : {call : Call} {n m p : ℕ} → occasion.Listed call n m p → eqb n 14 && eqb p 3 ≡ false → Speaks (text.line "ERR_" m p (threeDigits n))

@@ -32,7 +32,7 @@ use Rattle.logger.specs.declared.Heard.the-variants.{Complete, Busy}
 use Rattle.logger.specs.Heard.{lineOf}
 use Rattle.logged.specs.Written.{writtenBy, writtenTo, Writes}
 use Rattle.logged.proofs.Said.{with-last}
-use Rattle.logged.proofs.Lines.{alone-written}
+use Rattle.logged.proofs.Texts.{alone-written}
 
 -- what holds of the three ports holds of each
 pub each-port : (P : ℕ → Type 0) → P 1 → P 2 → P 3 → (p : ℕ) → between 1 connectors p ≡ true → P p

@@ -1,5 +1,6 @@
 pub mod Said
-pub mod Lines
+pub mod Texts
+pub mod Filing
 pub mod Ids
 pub mod Occasions
 pub mod Exact

@@ -33,7 +33,7 @@ use Rattle.logger.specs.declared.Heard.{Heard}
 use Rattle.logger.specs.declared.Heard.the-variants.{NotReply, State, Complete, Busy, Stop, Mode, Error, Version, Listed}
 use Rattle.logger.specs.Heard.{deviceLine, lineOf, isNowhere, isConnector, isRelay, writable}
 use Rattle.logged.specs.Written.{writtenTo, Writes}
-use Rattle.logged.proofs.Lines.{alone-written}
+use Rattle.logged.proofs.Texts.{alone-written}
 use Rattle.logged.proofs.Ids.{each-port, busy-written, complete-written}
 
 -- ---- occasions of all replies but those with an id and the devices

@@ -19,8 +19,8 @@ use Rattle.logger.specs.Tally.{samePlace}
 
 -- the assembler's lines as they are read, one for one; there is no overlong one among them
 pub data Heards : List Line → List Heard → Type 0 where
-  over : Heards [] []
-  next : {s : List ℕ} {r : Heard} {lines : List Line} {rs : List Heard} → Hears s r → Heards lines rs → Heards (whole s ∷ lines) (r ∷ rs)
+  ended : Heards [] []
+  reads : {s : List ℕ} {r : Heard} {lines : List Line} {rs : List Heard} → Hears s r → Heards lines rs → Heards (whole s ∷ lines) (r ∷ rs)
 
 -- what texts say, text by text and in their order: each is made of the lines of replies that a hub can write
 pub data Says : List (List ℕ) → List Heard → Type 0 where

@@ -1,6 +1,7 @@
 pub mod Loops
+pub mod Plain
 pub mod Meant
 pub mod Back
-pub mod Tallies
 pub mod Texts
 pub mod Counts
+pub mod Tallies

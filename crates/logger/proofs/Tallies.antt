@@ -15,18 +15,21 @@ use Rattle.logger.specs.declared.Heard.the-variants.{NotReply, State, Co
 use Rattle.logger.specs.declared.tally.Tally.{Tally}
 use Rattle.logger.specs.Tally.{samePlace, tells, tally, freshTally, mostLines, counted, SoundTally, talliedFrom, tallied, howMany, isReading, TallyOf}
 
--- a state of a place is told by that state's line and by nothing else
-place-is : (a b : Place) → a .m ≡ b .m → a .port ≡ b .port → a ≡ b
-place-is a b e f = λ i. record { m = e i; port = f i }
+-- places are compared part by part
+pub same-place-is : (a b : Place) → samePlace a b ≡ true → a ≡ b
+same-place-is a b e =
+    let m = eqb-true (a .m) (b .m) (and-left _ _ e) in
+    let port = eqb-true (a .port) (b .port) (and-right (eqb (a .m) (b .m)) _ e) in
+    λ i. record { m = m i; port = port i }
 
+-- a state of a place is told by that state's line and by nothing else
 pub tells-means : (place : Place) (v : ℕ) (h : Heard) → (tells place v h ≡ true) ↔ (h ≡ State place v)
 tells-means place v h = (there h, λ e. rw (e, eq-eqb v v refl, eq-eqb (place .m) (place .m) refl, eq-eqb (place .port) (place .port) refl))
   where
     there : (x : Heard) → tells place v x ≡ true → x ≡ State place v
     there NotReply e = not-both e refl
     there (State a told) e =
-        let f = and-right (eqb told v) (samePlace a place) e in
-        let is = place-is a place (eqb-true _ _ (and-left _ _ f)) (eqb-true _ _ (and-right (eqb (a .m) (place .m)) _ f)) in
+        let is = same-place-is a place (and-right (eqb told v) (samePlace a place) e) in
         rw (is, eqb-true told v (and-left _ _ e))
     there (Complete a id) e = not-both e refl
     there (Busy a id) e = not-both e refl

@@ -1,6 +1,5 @@
 -- What each reply of a hub is heard as: line by line, for the device list has four lines.
-use Prim.Native.Nat.{ℕ}
-use mathlib.Core.List.{List, [], _∷_, _++_}
+use mathlib.Core.List.{List, [], _∷_}
 use Rattle.request.specs.declared.Fixed.{Fixed}
 use Rattle.request.specs.declared.Fixed.the-variants as fixed
 use Rattle.reply.specs.declared.Reply.{Reply}
@@ -21,8 +20,3 @@ heardAs (reply.State place state) = State place state ∷ []
 heardAs (reply.Complete place id) = Complete place id ∷ []
 heardAs (reply.Busy place id) = Busy place id ∷ []
 heardAs (reply.Stopped place) = Stop place ∷ []
-
--- lines with a CR behind each; 13 is CR
-abbrev pub ended : List (List ℕ) → List ℕ
-ended [] = []
-ended (w ∷ ws) = w ++ (13 ∷ ended ws)

@@ -2,3 +2,4 @@ pub mod Heard
 pub mod Guess
 pub mod Tally
 pub mod Meant
+pub mod Counts

@@ -15,10 +15,10 @@ abbrev μ-loop : tie.MeasureT-loop
 μ-loop s w i₀ i = length w - i
 
 returns : tie.Need-returns Inv-loop μ-loop
-returns c = other-length (c .before .args .w .now) (c .before .args .s .now) (c .if1 .taken)
+returns c = other-length (c .before .args .w .now) (c .before .args .s .now) (λ e. omega arith)
 
 loop-holds : tie.Need-loop-holds Inv-loop μ-loop
-loop-holds c = record { left = refl; long = c .if1 .left }
+loop-holds c = record { left = refl; long = omega arith }
 
 shared-slice-read-if2 : tie.Need-shared-slice-read-if2 Inv-loop μ-loop
 shared-slice-read-if2 c = omega (arith, c .before .before .loop .inv .long)

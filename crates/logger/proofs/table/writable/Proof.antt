@@ -1,5 +1,6 @@
 -- `logger::table::writable` meets its contract.
 use mathlib.Core.Path.{sym, _∙_}
+use native.Mathlib.Omega.{arith}
 use borrow.Author.Tests.{le-leb, lt-leb}
 use borrow.Author.Needs.{needs}
 use Rattle.logger.specs.Heard.{writable}
@@ -14,7 +15,7 @@ enum-known-h c = search needs
 
 returns : tie.Need-returns
 unfolding writable
-returns c = rw (c .before .before .h .given .1, lt-leb _ _ (c .if1 .taken))
+returns c = rw (c .before .before .h .given .1, lt-leb (c .before .before .h .given .0 .1 .0) 1 (omega arith))
 
 is-relay-requires : tie.Need-is-relay-requires
 is-relay-requires c κs = search needs
@@ -22,8 +23,8 @@ is-relay-requires c κs = search needs
 returns-2 : tie.Need-returns-2
 unfolding writable
 returns-2 c =
-    let b = c .before .before in
-    rw (b .before .before .h .given .1, le-leb _ _ (b .if1 .left), sym (c .before .is-relay .ensures) ∙ c .if2 .taken)
+    let h = c .before .before .before .before .h in
+    rw (h .given .1, le-leb (h .given .0 .1 .0) 1 (omega arith), sym (c .before .is-relay .ensures) ∙ c .if2 .taken)
 
 is-connector-requires : tie.Need-is-connector-requires
 is-connector-requires c κs = search needs
@@ -33,7 +34,7 @@ enum-known-h-2 c = search needs
 
 returns-3 : tie.Need-returns-3
 unfolding writable
-returns-3 c = rw (c .before .before .h2 .given .1, lt-leb _ _ (c .if3 .taken))
+returns-3 c = rw (c .before .before .h2 .given .1, lt-leb (c .before .before .h2 .given .0 .1 .0) 65535 (omega arith))
 
 is-connector-requires-2 : tie.Need-is-connector-requires-2
 is-connector-requires-2 c κs = search needs
@@ -43,7 +44,7 @@ enum-known-h-3 c = search needs
 
 returns-4 : tie.Need-returns-4
 unfolding writable
-returns-4 c = rw (c .before .before .h3 .given .1, lt-leb _ _ (c .if4 .taken))
+returns-4 c = rw (c .before .before .h3 .given .1, lt-leb (c .before .before .h3 .given .0 .1 .0) 65535 (omega arith))
 
 is-connector-requires-3 : tie.Need-is-connector-requires-3
 is-connector-requires-3 c κs = search needs
@@ -88,17 +89,21 @@ returns-6 c = rw (c .enum-told .given .1)
 returns-7 : tie.Need-returns-7
 unfolding writable
 returns-7 c =
-    let b = c .before .before .before in
-    rw (b .before .before .h .given .1, le-leb _ _ (b .if1 .left), sym (c .before .before .is-relay .ensures) ∙ c .before .if2 .left)
+    let h = c .before .before .before .before .before .h in
+    rw (h .given .1, le-leb (h .given .0 .1 .0) 1 (omega arith), sym (c .before .before .is-relay .ensures) ∙ c .before .if2 .left)
     (c .is-connector .ensures)
 
 returns-8 : tie.Need-returns-8
 unfolding writable
-returns-8 c = rw (c .before .before .before .h2 .given .1, le-leb _ _ (c .before .if3 .left)) (c .is-connector2 .ensures)
+returns-8 c =
+    let h = c .before .before .before .h2 in
+    rw (h .given .1, le-leb (h .given .0 .1 .0) 65535 (omega arith)) (c .is-connector2 .ensures)
 
 returns-9 : tie.Need-returns-9
 unfolding writable
-returns-9 c = rw (c .before .before .before .h3 .given .1, le-leb _ _ (c .before .if4 .left)) (c .is-connector3 .ensures)
+returns-9 c =
+    let h = c .before .before .before .h3 in
+    rw (h .given .1, le-leb (h .given .0 .1 .0) 65535 (omega arith)) (c .is-connector3 .ensures)
 
 returns-10 : tie.Need-returns-10
 unfolding writable

@@ -4,4 +4,5 @@ pub mod Sending
 pub mod Counts
 pub mod Placed
 pub mod Wishes
+pub mod Sendirs
 pub mod Refused

@@ -118,7 +118,7 @@ pub decimals-fair : (ns : List ℕ) → all (all fair) (map decimal ns) ≡ true
 decimals-fair [] = refl
 decimals-fair (n ∷ ns) = and-true (all fair (decimal n)) _ (decimal-fair n) (decimals-fair ns)
 
-fair-free : (ws : List (List ℕ)) → all (all fair) ws ≡ true → all (free 44) ws ≡ true
+pub fair-free : (ws : List (List ℕ)) → all (all fair) ws ≡ true → all (free 44) ws ≡ true
 fair-free ws e = all-weaker (all fair) (free 44) (all-weaker fair (λ b. not (eqb b 44)) (λ b f. and-right (isPrintable b) _ f)) ws e
 
 fair-printable : (ws : List (List ℕ)) → all (all fair) ws ≡ true → all (all isPrintable) ws ≡ true
@@ -156,7 +156,7 @@ digits-free n =
     all-weaker isDigit (λ b. not (eqb b 58)) (λ b e. let r = digit-range b e in rw (ne-eqb b 58 (λ z. omega arith))) (decimal n) (decimal-digits n)
 
 module _ (a : Place) where
-  address-fair : all fair (addressOf a) ≡ true
+  pub address-fair : all fair (addressOf a) ≡ true
   address-fair = all-append fair (decimal (a .m)) (58 ∷ decimal (a .port)) (decimal-fair (a .m)) (decimal-fair (a .port))
 
   address-cut : cut 58 (addressOf a) ≡ decimal (a .m) ∷ decimal (a .port) ∷ []

@@ -53,11 +53,11 @@ WideWish (SetState a state) = Wide (a .m) × Wide (a .port) × Wide state
 WideWish (GetState a) = Wide (a .m) × Wide (a .port)
 WideWish (Stop a) = Wide (a .m) × Wide (a .port)
 
--- so is each of some counts
+-- each of some counts is
 abbrev pub EachWide : List ℕ → Type 0
 EachWide counts = (i : ℕ) → i < length counts → Wide (getD counts i 0)
 
--- and all of a sendir's
+-- all numbers of a sendir are
 pub record WideCommand (c : Command) (counts : List ℕ) : Type 0 where
   pub m : Wide (c .place .m)
   pub port : Wide (c .place .port)

@@ -6,3 +6,4 @@ pub mod Placed
 pub mod Wishes
 pub mod Sendirs
 pub mod Refused
+pub mod Accepted

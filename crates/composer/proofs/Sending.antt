@@ -1,7 +1,7 @@
 -- A sendir in which nothing is wrong is one that the writer takes, and its line leaves room for the CR.
 use Prim.Native.Nat.{ℕ, _+_, _%_, _≤_}
-use mathlib.Core.Path.{_≡_, refl}
-use mathlib.Core.Bool.{Bool, true, false, cond, not}
+use mathlib.Core.Path.{_≡_}
+use mathlib.Core.Bool.{true, not}
 use mathlib.Core.List.{List}
 use native.Mathlib.Omega.{arith}
 use borrow.Author.Tests.{ltb-false, le-ltb, le-leb, eqb-true, eqb-false, eq-eqb, not-false}
@@ -12,9 +12,8 @@ use Rattle.laws.specs.Checks.{between}
 use Rattle.laws.specs.Lists.{all}
 use Rattle.laws.specs.Put.{over, Put}
 use Rattle.laws.proofs.Put.{put-length}
-use Rattle.laws.proofs.Choice.{by-test, between-least, between-most}
+use Rattle.laws.proofs.Choice.{between-least, between-most}
 use Rattle.words.specs.Pairs.{pairsOf}
-use Rattle.words.specs.Places.{portsOf}
 use Rattle.code.specs.Limits.{legal, mostId, leastFreq, mostFreq, mostRepeat, mostOffset, mostCounts}
 use Rattle.request.specs.declared.Place.{Place}
 use Rattle.command.specs.declared.given.Given.{Given}
@@ -29,41 +28,10 @@ use Rattle.writer.specs.Sendir.{sendirLine, outcome, Wrote, line}
 use Rattle.writer.proofs.Limits.{given-taken, small}
 use Rattle.writer.proofs.Heads.{line-is}
 use Rattle.writer.proofs.Bytes.{head-few, code-few}
-use Rattle.composer.specs.Fault.{orElse, placeFault, fieldsFault, countsFault, sendirFault}
-use Rattle.composer.proofs.Faults.{three-ports}
+use Rattle.composer.specs.Fault.{placeFault, fieldsFault, countsFault, sendirFault}
+use Rattle.composer.proofs.Faults.{no-fault, neither, place-within}
 
--- ---- no fault: each test failed
-pub no-fault : (t : Bool) (fault next : ℕ) → 1 ≤ fault → cond t fault next ≡ 0 → (t ≡ false) × (next ≡ 0)
-no-fault true fault next h e = absurd (omega arith)
-no-fault false fault next h e = (refl, e)
-
-pub neither : (fault next : ℕ) → orElse fault next ≡ 0 → (fault ≡ 0) × (next ≡ 0)
-neither fault next =
-    by-test (eqb fault 0)
-    (λ t. rw t (λ (e : next ≡ 0). (eqb-true fault 0 t, e)))
-    (λ t. rw t (λ (e : fault ≡ 0). absurd (eqb-false fault 0 t e)))
-
--- a place where a connector or a relay is
-pub record Within (least most : ℕ) (a : Place) : Type 0 where
-  pub least-module : least ≤ a .m
-  pub most-module : a .m ≤ most
-  pub least-port : 1 ≤ a .port
-  pub most-port : a .port ≤ 3
-
-pub place-within : (least most : ℕ) (a : Place) → placeFault least most a ≡ 0 → Within least most a
-unfolding placeFault
-place-within least most a e =
-    let m = no-fault (not (between least most (a .m))) 2 _ (omega arith) e in
-    let p = no-fault (not (between 1 (portsOf (a .m)) (a .port))) 3 _ (omega arith) (m .1) in
-    let stands = not-false _ (m .0) in
-    let port = not-false _ (p .0) in
-    record {
-      least-module = between-least least most (a .m) stands;
-      most-module = between-most least most (a .m) stands;
-      least-port = between-least 1 (portsOf (a .m)) (a .port) port;
-      most-port = omega (arith, three-ports (a .m), between-most 1 (portsOf (a .m)) (a .port) port);
-    }
-
+-- ---- what the writer takes
 connector-within : (a : Place) → placeFault 1 1 a ≡ 0 → placeWithin a ≡ true
 unfolding placeWithin
 connector-within a e =
@@ -104,7 +72,7 @@ counts-within freq counts e =
     )
     (rw (take-all mostCounts counts few) at (not-false (all (legal freq) (take mostCounts counts)) (legals .0)))
 
-pub sendir-sent : (c : Command) (counts : List ℕ) → sendirFault c counts ≡ 0 → commandGiven c counts ≡ sent (takenAs (c .fields)) (pairsOf counts)
+sendir-sent : (c : Command) (counts : List ℕ) → sendirFault c counts ≡ 0 → commandGiven c counts ≡ sent (takenAs (c .fields)) (pairsOf counts)
 unfolding sendirFault commandGiven
 sendir-sent c counts e =
     let place = neither (placeFault 1 1 (c .place)) _ e in
@@ -119,13 +87,18 @@ sendir-sent c counts e =
     )
 
 -- ---- what the writer leaves
+
+-- without its CR
+abbrev pub sendirText : Form → Command → List ℕ → List ℕ
+sendirText form c counts = sendirLine form (c .place) (takenAs (c .fields)) (pairsOf counts)
+
 module _ (form : Form) (c : Command) (counts : List ℕ) where
   pub sendir-outcome : (before : List ℕ) → sendirFault c counts ≡ 0 → 4096 ≤ length before
-      → outcome (length before) form c counts ≡ line (sendirLine form (c .place) (takenAs (c .fields)) (pairsOf counts))
+      → outcome (length before) form c counts ≡ line (sendirText form c counts)
   unfolding outcome
   sendir-outcome before fine room = rw (le-ltb (length before) 4096 room, sendir-sent c counts fine)
 
-  pub sendir-few : sendirFault c counts ≡ 0 → length (sendirLine form (c .place) (takenAs (c .fields)) (pairsOf counts)) ≤ 3684
+  pub sendir-few : sendirFault c counts ≡ 0 → length (sendirText form c counts) ≤ 3684
   sendir-few fine =
       let t = given-taken c counts (takenAs (c .fields)) (pairsOf counts) (sendir-sent c counts fine) in
       let code = codeText form (pairsOf counts) in
@@ -144,7 +117,7 @@ pub record SendirWritten (text before after : List ℕ) (r : Written) : Type 0 w
   pub few : length text ≤ 3684
 
 pub sendir-written : {before after counts : List ℕ} {form : Form} {c : Command} {r : Written} → sendirFault c counts ≡ 0 → 4096 ≤ length before
-    → Wrote before form c counts after r → SendirWritten (sendirLine form (c .place) (takenAs (c .fields)) (pairsOf counts)) before after r
+    → Wrote before form c counts after r → SendirWritten (sendirText form c counts) before after r
 sendir-written {before} {counts = counts} {form = form} {c = c} fine room w =
     let e = sendir-outcome form c counts before fine room in
     record { answer = rw e at (w .answer); laid = rw e at (w .laid); few = sendir-few form c counts fine }

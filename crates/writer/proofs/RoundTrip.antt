@@ -88,7 +88,7 @@ few room form c given text e =
     rw (w .written ∙ line-is (c .place .port) (takenAs (c .fields)) code)
     (omega (arith, head-few code (small (t .place) (t .accepts .fields)), code-fits form (t .accepts .code)))
 
-line-back : (room : ℕ) (form : Form) (c : Command) (given text : List ℕ) → outcome room form c given ≡ line text
+pub line-back : (room : ℕ) (form : Form) (c : Command) (given text : List ℕ) → outcome room form c given ≡ line text
     → ReadsBack c (pairsOf given) text
 unfolding commandAt codeAt
 line-back room form c given text e =
@@ -148,7 +148,7 @@ capped-again : (repeat : ℕ) → spelled.capped (capped repeat) ≡ spelled.cap
 unfolding capped
 capped-again repeat = capped-same (capped repeat) (capped-high repeat)
 
-line-meant : (room : ℕ) (form : Form) (c : Command) (given text : List ℕ) → outcome room form c given ≡ line text
+pub line-meant : (room : ℕ) (form : Form) (c : Command) (given text : List ℕ) → outcome room form c given ≡ line text
     → IsSendir text (c .place .port) (command (c .fields .id) (c .fields .freq) (c .fields .repeat) (c .fields .offset)) (pairsOf given)
 line-meant room form c given text e =
     let w = line-taken room form c given text e in

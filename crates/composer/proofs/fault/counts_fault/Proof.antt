@@ -1,6 +1,6 @@
 -- `composer::fault::counts_fault` meets its contract.
 use Prim.Native.Nat.{_-_}
-use mathlib.Core.Path.{_≡_, sym, _∙_}
+use mathlib.Core.Path.{sym, _∙_}
 use borrow.Author.Tests.{eq-eqb, not-true, not-false}
 use lib.ListN.{length}
 use Rattle.composer.specs.Fault.{countsFault}
@@ -38,7 +38,8 @@ returns-3 : tie.Need-returns-3 Inv-loop μ-loop
 returns-3 c =
     let if2 = c .before .before .before in
     let loop-test = if2 .before in
-    illegal (loop-test .before .loop .inv) (loop-test .loop-test .taken) (if2 .if2 .left) (sym (c .before .is-legal .ensures) ∙ not-true _ (c .if3 .taken))
+    illegal (loop-test .before .loop .inv) (loop-test .loop-test .taken) (if2 .if2 .left)
+    (sym (c .before .is-legal .ensures) ∙ not-true _ (c .if3 .taken))
 
 add-i : tie.Need-add-i Inv-loop μ-loop
 add-i c = search needs
@@ -50,7 +51,8 @@ loop-again : tie.Need-loop-again Inv-loop μ-loop
 loop-again c =
     let if2 = c .before .before .before in
     let loop-test = if2 .before in
-    one-more (loop-test .before .loop .inv) (loop-test .loop-test .taken) (if2 .if2 .left) (sym (c .before .is-legal .ensures) ∙ not-false _ (c .if3 .left))
+    one-more (loop-test .before .loop .inv) (loop-test .loop-test .taken) (if2 .if2 .left)
+    (sym (c .before .is-legal .ensures) ∙ not-false _ (c .if3 .left))
 
 returns-4 : tie.Need-returns-4 Inv-loop μ-loop
 returns-4 c = paired (c .before .before .loop .inv) (c .before .before .before .if1 .left) (c .before .loop-test .left) (c .if4 .taken)

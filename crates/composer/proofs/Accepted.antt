@@ -1,4 +1,5 @@
--- What the hub makes of a composed request: "the hub reads each as composed", and it is one line with one CR, however it is cut.
+-- What the hub makes of a composed request. Document 02: "the hub reads each composed request as composed, repeat capped". And it is one line with
+-- one CR, however it is cut.
 use Prim.Native.Nat.{ℕ}
 use mathlib.Core.Path.{_≡_, refl, ap, _∙_}
 use mathlib.Core.Bool.{true, not}
@@ -19,6 +20,7 @@ use Rattle.request.specs.declared.Ask.{Ask}
 use Rattle.request.specs.Request.{isPrintable, fault, readRequest}
 use Rattle.command.specs.declared.given.Command.{Command}
 use Rattle.writer.specs.declared.Form.{Form}
+use Rattle.writer.specs.Sendir.{line, outcome}
 use Rattle.writer.specs.RoundTrip.{ReadsBack}
 use Rattle.writer.proofs.RoundTrip.{line-back, line-meant}
 use Rattle.lines.specs.Cut.{whole, lineOf, linesOf, noCr}
@@ -40,7 +42,7 @@ one-line : {text line : List ℕ} (pieces : List (List ℕ)) (buffer : List ℕ)
     → linesOf (text ++ (13 ∷ [])) ≡ whole text ∷ [] → feed pieces freshAssembler buffer .lines ≡ whole text ∷ []
 one-line pieces buffer h cut is one = feed-is-lines pieces buffer h ∙ ap linesOf (cut ∙ is) ∙ one
 
--- ---- a request
+-- ---- a request, but for sendir
 module _ {before : List ℕ} (wish : Wish) {after : List ℕ} {n : ℕ} (composed : Composes (wishOutcome (length before) wish) before (Line n) after) where
   made : LineComposed (wishFault wish) (wishText wish) before after n
   made = line-composed (wishFault wish) (wishText wish) composed
@@ -73,19 +75,18 @@ module _ {before : List ℕ} (form : Form) (c : Command) (counts : List ℕ) {af
   made-sendir : LineComposed (sendirFault c counts) (sendirText form c counts) before after n
   made-sendir = line-composed (sendirFault c counts) (sendirText form c counts) composed
 
-  -- the place, the fields with the repeat as capped, and the pairs
-  pub sendir-composed-read : (take n after ≡ sendirText form c counts ++ (13 ∷ [])) × ReadsBack c (pairsOf counts) (sendirText form c counts)
-  sendir-composed-read = (
-    made-sendir .written,
-    line-back (length before) form c counts (sendirText form c counts) (sendir-outcome form c counts before (made-sendir .fine) (made-sendir .room)),
-  )
+  written : outcome (length before) form c counts ≡ line (sendirText form c counts)
+  written = sendir-outcome form c counts before (made-sendir .fine) (made-sendir .room)
 
-  -- and so does the table
+  -- the hub reads the place, the fields with the repeat as capped, and the pairs
+  pub sendir-composed-read : (take n after ≡ sendirText form c counts ++ (13 ∷ [])) × ReadsBack c (pairsOf counts) (sendirText form c counts)
+  sendir-composed-read = (made-sendir .written, line-back (length before) form c counts (sendirText form c counts) written)
+
+  -- the table takes it for the same sendir, without a fault
   pub sendir-composed-meant :
       IsSendir (sendirText form c counts) (c .place .port) (command (c .fields .id) (c .fields .freq) (c .fields .repeat) (c .fields .offset))
       (pairsOf counts)
-  sendir-composed-meant =
-      line-meant (length before) form c counts (sendirText form c counts) (sendir-outcome form c counts before (made-sendir .fine) (made-sendir .room))
+  sendir-composed-meant = line-meant (length before) form c counts (sendirText form c counts) written
 
   pub sendir-one-line : (pieces : List (List ℕ)) (buffer : List ℕ) → length buffer ≡ 4096 → flatten pieces ≡ take n after
       → feed pieces freshAssembler buffer .lines ≡ whole (sendirText form c counts) ∷ []

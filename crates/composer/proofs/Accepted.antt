@@ -1,22 +1,21 @@
 -- What the hub makes of a composed request. Document 02: "the hub reads each composed request as composed, repeat capped". And it is one line with
 -- one CR, however it is cut.
-use Prim.Native.Nat.{ℕ}
+use Prim.Native.Nat.{ℕ, _≤_}
 use mathlib.Core.Path.{_≡_, refl, ap, _∙_}
-use mathlib.Core.Bool.{true, not}
+use mathlib.Core.Bool.{Bool, true, false, not}
 use mathlib.Core.List.{List, [], _∷_, _++_, flatten}
 use native.Mathlib.Omega.{arith}
 use borrow.Author.Tests.{le-leb, ltb-false, ne-eqb, not-false}
-use lib.Dec.{ltb}
+use lib.Dec.{ltb, eqb}
 use lib.ListN.{length, take}
 use Rattle.laws.specs.Lists.{all}
-use Rattle.laws.proofs.Choice.{cond-case, clash, guard, and-true}
+use Rattle.laws.proofs.Choice.{by-test, cond-case, not-both, guard, and-true}
 use Rattle.laws.proofs.Lists.{all-weaker}
 use Rattle.words.specs.Pairs.{pairsOf}
 use Rattle.theorems.specs.Spelled.{command, IsSendir}
 use Rattle.request.specs.declared.Request.{Request}
-use Rattle.request.specs.declared.Request.the-variants.{Connector}
+use Rattle.request.specs.declared.Request.the-variants.{Fault, Fixed, Connector, Relay}
 use Rattle.request.specs.declared.Place.{Place}
-use Rattle.request.specs.declared.Ask.{Ask}
 use Rattle.request.specs.Request.{isPrintable, fault, readRequest}
 use Rattle.command.specs.declared.given.Command.{Command}
 use Rattle.writer.specs.declared.Form.{Form}
@@ -29,46 +28,86 @@ use Rattle.lines.specs.Feed.{feed}
 use Rattle.lines.proofs.Cutting.{lines-are}
 use Rattle.lines.proofs.Feeding.{feed-is-lines}
 use Rattle.composer.specs.declared.Wish.{Wish}
+use Rattle.composer.specs.declared.Wish.the-variants as wish
 use Rattle.composer.specs.declared.Composed.the-variants.{Line}
-use Rattle.composer.specs.Fault.{sendirFault, wishFault}
+use Rattle.composer.specs.Fault.{placeFault, sendirFault, wishFault}
 use Rattle.composer.specs.Compose.{wishText, wishOutcome, sendirOutcome, Composes}
-use Rattle.composer.specs.Composed.{requestOf}
+use Rattle.composer.specs.Composed.{requestOf, Wide, WideWish}
+use Rattle.composer.proofs.Faults.{no-fault, neither, place-within}
 use Rattle.composer.proofs.Composing.{LineComposed, line-composed}
-use Rattle.composer.proofs.Sending.{sendirText, sendir-outcome, sendir-few}
-use Rattle.composer.proofs.Wishes.{accepted-read}
+use Rattle.composer.proofs.Sending.{sendirText, sendir-outcome}
+use Rattle.composer.proofs.Wishes.{wish-read}
 
 -- the pieces of what was composed give the lines of its text and its CR
 one-line : {text line : List ℕ} (pieces : List (List ℕ)) (buffer : List ℕ) → length buffer ≡ 4096 → flatten pieces ≡ line → line ≡ text ++ (13 ∷ [])
     → linesOf (text ++ (13 ∷ [])) ≡ whole text ∷ [] → feed pieces freshAssembler buffer .lines ≡ whole text ∷ []
 one-line pieces buffer h cut is one = feed-is-lines pieces buffer h ∙ ap linesOf (cut ∙ is) ∙ one
 
--- ---- a request, but for sendir
-module _ {before : List ℕ} (wish : Wish) {after : List ℕ} {n : ℕ} (composed : Composes (wishOutcome (length before) wish) before (Line n) after) where
-  made : LineComposed (wishFault wish) (wishText wish) before after n
-  made = line-composed (wishFault wish) (wishText wish) composed
+-- ---- a line that the hub reads as a request has no CR, and is no longer than a line may be
+abbrev isFault : Request → Bool
+isFault (Fault number place) = true
+isFault (Fixed fixed) = false
+isFault (Connector place ask) = false
+isFault (Relay place turn) = false
 
-  pub composed-read : (take n after ≡ wishText wish ++ (13 ∷ [])) × (readRequest (wishText wish) ≡ requestOf wish)
-  composed-read = (made .written, accepted-read wish (made .fine) .0)
-
-  pub composed-one-line : (pieces : List (List ℕ)) (buffer : List ℕ) → length buffer ≡ 4096 → flatten pieces ≡ take n after
-      → feed pieces freshAssembler buffer .lines ≡ whole (wishText wish) ∷ []
-  composed-one-line pieces buffer h cut = one-line pieces buffer h cut (made .written) (accepted-read wish (made .fine) .1)
-
--- ---- a sendir
-
--- the bytes of a line that the hub reads are printable, so that none is a CR
 printable-no-cr : (b : ℕ) → isPrintable b ≡ true → noCr b ≡ true
 printable-no-cr b e =
     let least = ltb-false b 32 (guard (ltb b 32) _ e .0) in
     rw (ne-eqb b 13 (λ z. omega arith))
 
-read-printable : (s : List ℕ) (a : Place) (ask : Ask) → readRequest s ≡ Connector a ask → all isPrintable s ≡ true
-unfolding readRequest
-read-printable s a ask =
-    let P : Request → Type 0 = λ r. r ≡ Connector a ask → all isPrintable s ≡ true in
-    cond-case P (ltb 4096 (length s)) (fault 15) _ (λ _ z. clash (cc)) λ _.
-    cond-case P (not (all isPrintable s)) (fault 1) _ (λ _ z. clash (cc)) λ e _.
-    not-false _ e
+request-line : (s : List ℕ) → isFault (readRequest s) ≡ false → linesOf (s ++ (13 ∷ [])) ≡ whole s ∷ []
+unfolding readRequest lineOf
+request-line s =
+    let P : Request → Type 0 = λ r. isFault r ≡ false → linesOf (s ++ (13 ∷ [])) ≡ whole s ∷ [] in
+    cond-case P (ltb 4096 (length s)) (fault 15) _ (λ _ z. not-both refl z) λ short.
+    cond-case P (not (all isPrintable s)) (fault 1) _ (λ _ z. not-both refl z) λ e _.
+    let free = all-weaker isPrintable noCr printable-no-cr s (not-false _ e) in
+    lines-are (s ∷ []) [] (and-true (all noCr s) true free refl) refl ∙ rw (le-leb (length s) 4096 (ltb-false 4096 (length s) short))
+
+-- ---- a request, but for sendir
+
+-- a place that is taken has small numbers
+place-wide : (least most : ℕ) (a : Place) → most ≤ 2 → placeFault least most a ≡ 0 → Wide (a .m) × Wide (a .port)
+place-wide least most a h e =
+    let w = place-within least most a e in
+    (omega (arith, w .most-module), omega (arith, w .most-port))
+
+fine-wide : (w : Wish) → wishFault w ≡ 0 → WideWish w
+unfolding wishFault
+fine-wide (wish.Fixed fixed) e = tt
+fine-wide (wish.SetMode a mode) e = place-wide 1 1 a (omega arith) (neither (placeFault 1 1 a) _ e .0)
+fine-wide (wish.GetMode a) e = place-wide 1 1 a (omega arith) e
+fine-wide (wish.SetState a state) e =
+    let both = neither (placeFault 2 2 a) _ e in
+    let w = place-wide 2 2 a (omega arith) (both .0) in
+    let small = ltb-false 1 state (no-fault (ltb 1 state) 23 0 (omega arith) (both .1) .0) in
+    (w .0, w .1, omega arith)
+fine-wide (wish.GetState a) e = place-wide 1 2 a (omega arith) e
+fine-wide (wish.Stop a) e = place-wide 1 1 a (omega arith) e
+
+wished : (w : Wish) → isFault (requestOf w) ≡ false
+wished (wish.Fixed fixed) = refl
+wished (wish.SetMode a mode) = refl
+wished (wish.GetMode a) = refl
+wished (wish.SetState a state) = refl
+wished (wish.GetState a) = by-test (eqb (a .m) 1) (λ e. rw e) (λ e. rw e)
+wished (wish.Stop a) = refl
+
+module _ {before : List ℕ} (w : Wish) {after : List ℕ} {n : ℕ} (composed : Composes (wishOutcome (length before) w) before (Line n) after) where
+  made : LineComposed (wishFault w) (wishText w) before after n
+  made = line-composed (wishFault w) (wishText w) composed
+
+  read : readRequest (wishText w) ≡ requestOf w
+  read = wish-read w (fine-wide w (made .fine)) ∙ rw (made .fine)
+
+  pub composed-read : (take n after ≡ wishText w ++ (13 ∷ [])) × (readRequest (wishText w) ≡ requestOf w)
+  composed-read = (made .written, read)
+
+  pub composed-one-line : (pieces : List (List ℕ)) (buffer : List ℕ) → length buffer ≡ 4096 → flatten pieces ≡ take n after
+      → feed pieces freshAssembler buffer .lines ≡ whole (wishText w) ∷ []
+  composed-one-line pieces buffer h cut = one-line pieces buffer h cut (made .written) (request-line (wishText w) (ap isFault read ∙ wished w))
+
+-- ---- a sendir
 
 module _ {before : List ℕ} (form : Form) (c : Command) (counts : List ℕ) {after : List ℕ} {n : ℕ}
     (composed : Composes (sendirOutcome (length before) form c counts) before (Line n) after) where
@@ -90,12 +129,6 @@ module _ {before : List ℕ} (form : Form) (c : Command) (counts : List ℕ) {af
 
   pub sendir-one-line : (pieces : List (List ℕ)) (buffer : List ℕ) → length buffer ≡ 4096 → flatten pieces ≡ take n after
       → feed pieces freshAssembler buffer .lines ≡ whole (sendirText form c counts) ∷ []
-  unfolding lineOf
   sendir-one-line pieces buffer h cut =
-      let text = sendirText form c counts in
-      let plain = read-printable text (c .place) _ (sendir-composed-read .1 .request) in
-      let free = all-weaker isPrintable noCr printable-no-cr text plain in
-      let one : linesOf (text ++ (13 ∷ [])) ≡ whole text ∷ [] =
-      lines-are (text ∷ []) [] (and-true (all noCr text) true free refl) refl
-      ∙ rw (le-leb (length text) 4096 (omega (arith, sendir-few form c counts (made-sendir .fine)))) in
-      one-line pieces buffer h cut (made-sendir .written) one
+      let back = sendir-composed-read .1 in
+      one-line pieces buffer h cut (made-sendir .written) (request-line (sendirText form c counts) (ap isFault (back .request)))

@@ -1,41 +1,41 @@
 -- Laws of composing: a refusal writes nothing, and a line is laid down whole.
-use Prim.Native.Nat.{ℕ, _+_, _≤_, _<_}
+use Prim.Native.Nat.{ℕ, _+_, _≤_}
 use mathlib.Core.Path.{_≡_, sym, ap, _∙_}
-use mathlib.Core.Bool.{not}
+use mathlib.Core.Bool.{cond, not}
 use mathlib.Core.List.{List, [], _∷_, _++_}
 use native.Mathlib.Nat.{zero-add}
 use native.Mathlib.Omega.{arith}
-use borrow.Author.Tests.{ltb-false, lt-ltb, le-ltb, eqb-true, eq-eqb, ne-eqb, not-false}
+use borrow.Author.Tests.{ltb-false, eqb-true, eq-eqb, ne-eqb, not-false}
 use lib.Dec.{ltb, eqb}
 use lib.ListN.{length, take}
 use Rattle.laws.specs.Bytes.{bytes}
 use Rattle.laws.specs.Put.{Put}
 use Rattle.laws.proofs.Choice.{cond-case, clash}
 use Rattle.laws.proofs.Put.{over-nothing, over-front}
-use Rattle.writer.specs.Sendir.{Outcome, refused}
+use Rattle.writer.specs.Sendir.{Outcome}
 use Rattle.composer.specs.declared.Composed.the-variants.{Refused, Line}
-use Rattle.composer.specs.Compose.{composing, Composes}
+use Rattle.composer.specs.Compose.{refusalOf, composing, Composes}
+use Rattle.composer.proofs.Faults.{no-fault, neither}
 
-module _ (text : List ℕ) {before : List ℕ} where
-  nothing : (fault : ℕ) {number : ℕ} → composing (length before) fault text ≡ refused number
-      → Composes (composing (length before) fault text) before (Refused number) before
-  nothing fault e = record { answer = rw e; laid = rw e (sym (over-nothing before 0)) }
+-- nothing was wrong, and there was room
+pub neither-refused : (fault room : ℕ) → refusalOf fault room ≡ 0 → (fault ≡ 0) × (4096 ≤ room)
+unfolding refusalOf
+neither-refused fault room e =
+    let both = neither fault (cond (ltb room 4096) 101 0) e in
+    (both .0, ltb-false room 4096 (no-fault (ltb room 4096) 101 0 (omega arith) (both .1) .0))
 
-  pub faulty : {fault found : ℕ} → found ≡ fault → (found ≡ 0 → ⊥) → Composes (composing (length before) fault text) before (Refused found) before
+module _ (text : List ℕ) {before : List ℕ} {fault found number : ℕ} (f : found ≡ fault) (e : number ≡ refusalOf found (length before)) where
+  pub nothing-composed : (number ≡ 0 → ⊥) → Composes (composing (length before) fault text) before (Refused number) before
   unfolding composing
-  faulty {fault} {found} e h = nothing fault (rw (← e, ne-eqb found 0 h))
+  nothing-composed h = record { answer = rw (← f, ← e, ne-eqb number 0 h); laid = rw (← f, ← e, ne-eqb number 0 h) (sym (over-nothing before 0)) }
 
-  pub no-room : {fault : ℕ} → fault ≡ 0 → length before < 4096 → Composes (composing (length before) fault text) before (Refused 101) before
-  unfolding composing
-  no-room {fault} e h = nothing fault (rw (eq-eqb fault 0 e, lt-ltb (length before) 4096 h))
-
-  pub composed : {after : List ℕ} {fault next : ℕ} → fault ≡ 0 → 4096 ≤ length before → Put before 0 (text ++ bytes "\r") after next
+  pub composed : {after : List ℕ} {next : ℕ} → number ≡ 0 → Put before 0 (text ++ bytes "\r") after next
       → Composes (composing (length before) fault text) before (Line next) after
   unfolding composing
-  composed {fault = fault} e h p =
+  composed z p =
       record {
-        answer = ap Line (p .place ∙ zero-add (length (text ++ bytes "\r"))) ∙ rw (eq-eqb fault 0 e, le-ltb (length before) 4096 h);
-        laid = rw (eq-eqb fault 0 e, le-ltb (length before) 4096 h) (p .laid);
+        answer = ap Line (p .place ∙ zero-add (length (text ++ bytes "\r"))) ∙ rw (← f, ← e, eq-eqb number 0 z);
+        laid = rw (← f, ← e, eq-eqb number 0 z) (p .laid);
       }
 
 -- ---- a line that was composed: nothing was wrong, there was room, and its bytes stand at the start
@@ -50,13 +50,10 @@ unfolding composing
 line-composed fault text {before} {after} {n} =
     let P : Outcome → Type 0 = λ o. Composes o before (Line n) after → LineComposed fault text before after n in
     let whole = text ++ (13 ∷ []) in
-    cond-case P (not (eqb fault 0)) _ _ (λ _ w. let e = w .answer in clash (cc)) λ f.
-    cond-case P (ltb (length before) 4096) _ _ (λ _ w. let e = w .answer in clash (cc)) λ r w.
+    let number = refusalOf fault (length before) in
+    cond-case P (not (eqb number 0)) _ _ (λ _ w. let e = w .answer in clash (cc)) λ f w.
     let e = w .answer in
     let size : n ≡ length whole = cc in
     let n-is : n ≡ 0 + length whole = omega arith in
-    record {
-      fine = eqb-true fault 0 (not-false _ f);
-      room = ltb-false (length before) 4096 r;
-      written = rw (w .laid, n-is) (over-front before 0 whole (omega arith));
-    }
+    let none = neither-refused fault (length before) (eqb-true number 0 (not-false _ f)) in
+    record { fine = none .0; room = none .1; written = rw (w .laid, n-is) (over-front before 0 whole (omega arith)) }

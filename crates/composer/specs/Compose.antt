@@ -22,7 +22,7 @@ use Rattle.composer.specs.declared.Wish.{Wish}
 use Rattle.composer.specs.declared.Wish.the-variants.{Fixed, SetMode, GetMode, SetState, GetState, Stop}
 use Rattle.composer.specs.declared.Composed.{Composed}
 use Rattle.composer.specs.declared.Composed.the-variants.{Refused, Line}
-use Rattle.composer.specs.Fault.{sendirFault, wishFault}
+use Rattle.composer.specs.Fault.{orElse, sendirFault, wishFault}
 
 -- without its CR
 unfoldable pub wishText : Wish → List ℕ
@@ -33,11 +33,14 @@ wishText (SetState a state) = addressText (bytes "setstate,") a ++ (bytes "," ++
 wishText (GetState a) = addressText (bytes "getstate,") a
 wishText (Stop a) = addressText (bytes "stopir,") a
 
--- a fault, 101 for too little room, or the text and its CR
+-- the number of a refusal: the fault, "then 101 for a lent line under 4,096 bytes"; 0 where there is neither
+unfoldable pub refusalOf : ℕ → ℕ → ℕ
+refusalOf fault room = orElse fault (first ((ltb room 4096 ⇒ 101) ∷ []) 0)
+
+-- that refusal, or the text and its CR
 unfoldable pub composing : ℕ → ℕ → List ℕ → Outcome
 composing room fault text = first
-    ((not (eqb fault 0) ⇒ refused fault)
-    ∷ (ltb room 4096 ⇒ refused 101)
+    ((not (eqb (refusalOf fault room) 0) ⇒ refused (refusalOf fault room))
     ∷ []) (line (text ++ bytes "\r"))
 
 abbrev pub wishOutcome : ℕ → Wish → Outcome

@@ -14,7 +14,7 @@ ghost use lib.ListN.{length};
 ghost use Rattle.laws.specs.Bytes.{bytes};
 ghost use Rattle.laws.specs.Put.{Put};
 ghost use Rattle.request.specs.Name.{fixedWord};
-ghost use Rattle.composer.specs.Compose.{wishText, wishOutcome, sendirOutcome, Composes};
+ghost use Rattle.composer.specs.Compose.{wishText, refusalOf, wishOutcome, sendirOutcome, Composes};
 
 fn put_fixed(line: &mut [u8], fixed: Fixed) -> usize
     requires { ⌜ 128 ≤ length (now line) ⌝ }
@@ -56,16 +56,26 @@ fn put_wish(line: &mut [u8], wish: Wish) -> usize
     }
 }
 
+// The number of a refusal: the request's fault, then 101 for too little room; 0 where there is neither.
+fn refusal(fault: u64, room: usize) -> u64
+    ensures { λ r. ⌜ r ≡ refusalOf fault room ⌝ }
+{
+    if fault != 0 {
+        return fault;
+    }
+    if room < Composed::ROOM {
+        return 101;
+    }
+    0
+}
+
 // The line of a request, or the number that the hub would answer it, then 101, and nothing written.
 pub fn compose(line: &mut [u8], wish: Wish) -> Composed
     ensures { λ r. ⌜ Composes (wishOutcome (length (now (line .entry))) wish) (now (line .entry)) r (now (line .exit)) ⌝ }
 {
-    let fault = crate::fault::wish_fault(wish);
-    if fault != 0 {
-        return Composed::Refused(fault);
-    }
-    if line.len() < Composed::ROOM {
-        return Composed::Refused(101);
+    let number = refusal(crate::fault::wish_fault(wish), line.len());
+    if number != 0 {
+        return Composed::Refused(number);
     }
     Composed::Line(put_wish(line, wish))
 }
@@ -74,15 +84,12 @@ pub fn compose(line: &mut [u8], wish: Wish) -> Composed
 pub fn compose_sendir(line: &mut [u8], form: Form, command: Command, counts: &[u64]) -> Composed
     ensures { λ r. ⌜ Composes (sendirOutcome (length (now (line .entry))) form command (now (counts .entry))) (now (line .entry)) r (now (line .exit)) ⌝ }
 {
-    let fault = crate::fault::sendir_fault(command, counts);
-    if fault != 0 {
-        return Composed::Refused(fault);
-    }
-    if line.len() < Composed::ROOM {
-        return Composed::Refused(101);
+    let number = refusal(crate::fault::sendir_fault(command, counts), line.len());
+    if number != 0 {
+        return Composed::Refused(number);
     }
     match writer::sendir::write_sendir(line, form, command, counts) {
-        Written::Refused(number) => Composed::Refused(number),
+        Written::Refused(other) => Composed::Refused(other),
         Written::Line(size) => Composed::Line(put_word(line, size, b"\r")),
     }
 }

@@ -1,6 +1,7 @@
 -- `composer::compose::compose` meets its contract.
 use mathlib.Core.Path.{sym, _∙_}
-use Rattle.composer.proofs.Composing.{faulty, no-room, composed}
+use native.Mathlib.Omega.{arith}
+use Rattle.composer.proofs.Composing.{neither-refused, nothing-composed, composed}
 use borrow.Author.Needs.{needs}
 use Rattle.composer.proofs.compose.compose.Statement.{statement}
 use Rattle.composer.proofs.compose.compose.Tie as tie
@@ -8,24 +9,26 @@ use Rattle.composer.proofs.compose.compose.Tie as tie
 wish-fault-requires : tie.Need-wish-fault-requires
 wish-fault-requires c κs = search needs
 
-returns : tie.Need-returns
-returns c = faulty _ (c .before .wish-fault .ensures) (c .if1 .taken)
+refusal-requires : tie.Need-refusal-requires
+refusal-requires c κs = search needs
 
-returns-2 : tie.Need-returns-2
-returns-2 c = no-room _ (sym (c .before .before .wish-fault .ensures) ∙ c .before .if1 .left) (c .if2 .taken)
+returns : tie.Need-returns
+returns c = nothing-composed _ (c .before .before .wish-fault .ensures) (c .before .refusal .ensures) (c .if1 .taken)
 
 put-wish-requires : tie.Need-put-wish-requires
-put-wish-requires c κs = search needs
+put-wish-requires c κs =
+    let if1 = c .before in
+    omega (arith, neither-refused _ _ (sym (if1 .before .refusal .ensures) ∙ if1 .if1 .left) .1)
 
 same-length : tie.Need-same-length
 same-length c = search needs
 
-returns-3 : tie.Need-returns-3
-returns-3 c =
-    let if2 = c .before .before .before .before in
-    composed _ (sym (if2 .before .before .wish-fault .ensures) ∙ if2 .before .if1 .left) (if2 .if2 .left) (c .before .before .put-wish .ensures)
+returns-2 : tie.Need-returns-2
+returns-2 c =
+    let if1 = c .before .before .before .before in
+    composed _ (if1 .before .before .wish-fault .ensures) (if1 .before .refusal .ensures) (if1 .if1 .left) (c .before .before .put-wish .ensures)
 
 pub compose-spec : {M : Type 1} → statement M
 compose-spec =
     tie.close
-    (tie.spec wish-fault-requires returns returns-2 put-wish-requires same-length returns-3)
+    (tie.spec wish-fault-requires refusal-requires returns put-wish-requires same-length returns-2)

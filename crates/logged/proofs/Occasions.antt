@@ -147,9 +147,11 @@ unfolding writable
 state-shown a s e =
     let small = and-left (leb s 1) (isRelay a || isConnector a) e in
     let there = and-right (leb s 1) (isRelay a || isConnector a) e in
-    by-test (isRelay a)
-    (λ t. zero-or-one (λ v. shown (State a v)) (each-place 2 (λ b. shown (State b 0) && shown (State b 1)) (tables .relays) a t) s small)
-    (λ t. zero-or-one (λ v. shown (State a v)) (each-place 1 (λ b. shown (State b 0) && shown (State b 1)) (tables .contacts) a (rw t at there)) s small)
+    zero-or-one (λ v. shown (State a v))
+    (by-test (isRelay a)
+    (λ t. each-place 2 (λ b. shown (State b 0) && shown (State b 1)) (tables .relays) a t)
+    (λ t. each-place 1 (λ b. shown (State b 0) && shown (State b 1)) (tables .contacts) a (rw t at there)))
+    s small
 
 error-shown : (n : ℕ) (a : Place) → writable (Error n a) ≡ true → shown (Error n a) ≡ true
 unfolding writable
@@ -173,7 +175,7 @@ error-shown n a e =
     (by-test (eqb n 14) (λ w. rw (eqb-true n 14 w)) (λ w. rw w (rw w at f))))
     (λ v. not-both (rw (t, u, v) at e) refl)
 
--- the devices are written all four
+-- the devices are written all four, one behind the other
 devices-written : (before after : List (List ℕ)) (d : Device)
     → before ++ (deviceLine d ∷ after) ≡ deviceLine Ethernet ∷ deviceLine Infrared ∷ deviceLine Relays ∷ deviceLine End ∷ []
     → Writes (said []) (lineOf (Listed d))
@@ -190,7 +192,7 @@ device-written Infrared = devices-written (deviceLine Ethernet ∷ []) (deviceLi
 device-written Relays = devices-written (deviceLine Ethernet ∷ deviceLine Infrared ∷ []) (deviceLine End ∷ []) Relays refl
 device-written End = devices-written (deviceLine Ethernet ∷ deviceLine Infrared ∷ deviceLine Relays ∷ []) [] End refl
 
--- an id, of a connector
+-- a reply with an id names a connector
 id-written : (f : Place → Heard) (a : Place) (id : ℕ) → leb id 65535 && isConnector a ≡ true
     → ((p : ℕ) → between 1 connectors p ≡ true → id ≤ 65535 → Writes (said []) (lineOf (f (placeOf 1 p)))) → Writes (said []) (lineOf (f a))
 id-written f a id e written =
@@ -205,7 +207,8 @@ writable-written (State a s) e = shown-written (State a s) e (state-shown a s e)
 writable-written (Complete a id) e = id-written (λ b. Complete b id) a id e (λ p port small. complete-written p port id small)
 writable-written (Busy a id) e = id-written (λ b. Busy b id) a id e (λ p port small. busy-written p port id small)
 writable-written (Stop a) e = shown-written (Stop a) e (each-place 1 (λ b. shown (Stop b)) (tables .stops) a e)
-writable-written (Mode a m) e = shown-written (Mode a m) e (each-place 1 (λ b. shown (Mode b m)) (tables .modes m) a (and-left (isConnector a) (mayHave (a .port) m) e))
+writable-written (Mode a m) e =
+    shown-written (Mode a m) e (each-place 1 (λ b. shown (Mode b m)) (tables .modes m) a (and-left (isConnector a) (mayHave (a .port) m) e))
 writable-written (Error n a) e = shown-written (Error n a) e (error-shown n a e)
 writable-written Version e = shown-written Version e (tables .version)
 writable-written (Listed d) e = device-written d

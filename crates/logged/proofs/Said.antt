@@ -150,7 +150,9 @@ module _ (n : ℕ) (h : List Call) where
       go option.none e = none
       go (some s) e =
           cond-case Notices (complete s _) _ _
-          (λ _. more p (s .fields .id) (rw (le-leb _ 65535 (air-id h p s e), port)) (with-last "completeir," (placeOf 1 p) (decimal (s .fields .id))) none)
+          (λ _.
+          let id = s .fields .id in
+          more p id (rw (le-leb id 65535 (air-id h p s e), port)) (with-last "completeir," (placeOf 1 p) (decimal id)) none)
           (λ _. none)
 
   completions-notices : Notices (completions n (logOf h))

@@ -1,14 +1,15 @@
 -- What is accepted is within document 01's limits.
 use Prim.Native.Nat.{ℕ, _≤_}
-use mathlib.Core.Path.{_≡_}
+use mathlib.Core.Path.{_≡_, refl}
 use mathlib.Core.List.{List}
-use mathlib.Core.Bool.{true, not}
+use mathlib.Core.Bool.{true, false, not}
 use native.Mathlib.Omega.{arith}
-use borrow.Author.Tests.{ltb-false, eqb-true, not-false}
+use borrow.Author.Tests.{ltb-false, eqb-true, eqb-false, not-false}
 use lib.Dec.{ltb, eqb}
 use lib.ListN.{length}
+use Rattle.laws.specs.Checks.{oneOf}
 use Rattle.laws.specs.Lists.{all}
-use Rattle.laws.proofs.Choice.{cond-case}
+use Rattle.laws.proofs.Choice.{cond-case, not-both}
 use Rattle.words.specs.Places.{portsOf}
 use Rattle.text.specs.declared.field.Field.{Field}
 use Rattle.text.specs.Field.{afterComma}
@@ -25,34 +26,42 @@ use Rattle.request.specs.declared.name.WordRead.{WordRead}
 use Rattle.request.specs.declared.name.WordRead.the-variants.{Unknown, Known}
 use Rattle.request.specs.declared.address.Address.{Address}
 use Rattle.request.specs.declared.address.Address.the-variants as address
+use Rattle.request.specs.declared.mode.Mode.{Mode}
+use Rattle.request.specs.declared.mode.Mode.the-variants.{Ir, Sensor, IrBlaster}
 use Rattle.request.specs.declared.mode.ModeRead.{ModeRead}
 use Rattle.request.specs.declared.mode.ModeRead.the-variants as mode
 use Rattle.request.specs.Name.{fixedWord, nameOf, wordAt}
 use Rattle.request.specs.Address.{hasModule, addressAt, addressFault}
 use Rattle.request.specs.Mode.{modeAt, mayHave}
 use Rattle.request.specs.Request.{isPrintable, fault, alone, modeRead, setIrAt, stateRead, setStateAt, getStateAt, atAddress, addressRead, addressed, asked, readRequest}
-use Rattle.request.specs.Accepted.{ConnectorAt, RelayAt, Within}
+use Rattle.request.specs.Accepted.{ConnectorAt, RelayAt, unaddressed, unnamed, no-mode, no-blaster, no-state, Within}
 
 -- a complete request is within the limits, and so is the fault of what stands behind it
 alone-within : (s : List ℕ) (end : ℕ) (r : Request) → Within r → Within (alone s end r)
 unfolding alone
-alone-within s end r w = cond-case Within (ltb end (length s)) (fault 17) r (λ _. tt) (λ _. w)
+alone-within s end r w = cond-case Within (ltb end (length s)) (fault 17) r (λ _. unnamed refl) (λ _. w)
 
--- set_IR: its mode is one that the connector may have
+-- set_IR: its mode is one that the connector may have, and only IR_BLASTER is barred, on a connector other than 3
+barred : (port : ℕ) (m : Mode) → mayHave port m ≡ false → port ≡ 3 → ⊥
+barred port Ir e is = not-both refl e
+barred port Sensor e is = not-both refl e
+barred port IrBlaster e is = eqb-false port 3 e is
+
 set-ir-within : (s : List ℕ) (place : Place) (at : ℕ) → ConnectorAt place → Within (setIrAt s place at)
 unfolding setIrAt
 set-ir-within s place at p = go (modeAt s at)
   where
     go : (r : ModeRead) → Within (modeRead s place r)
-    go mode.Unknown = tt
+    go mode.Unknown = no-mode p
     go (mode.Known m end) =
-        cond-case Within (mayHave (place .port) m) _ _ (λ e. alone-within s end (Connector place (SetMode m)) (p, e)) (λ _. tt)
+        cond-case Within (mayHave (place .port) m) _ _
+        (λ e. alone-within s end (Connector place (SetMode m)) (p, e)) (λ e. no-blaster p (barred (place .port) m e))
 
 -- setstate: its state is 0 or 1
 set-state-within : (s : List ℕ) (place : Place) (at : ℕ) → RelayAt place → Within (setStateAt s place at)
 unfolding setStateAt
 set-state-within s place at p =
-    field-case (λ (f : Field). Within (stateRead s place f)) 0 1 s at tt
+    field-case (λ (f : Field). Within (stateRead s place f)) 0 1 s at (no-state p)
     (λ state end _ most. alone-within s end (Relay place (Set state)) (p, most))
 
 -- the module and the port of an address that a request takes
@@ -74,6 +83,15 @@ taken n place =
       least = ltb-false (place .port) 1 l;
       most = ltb-false (portsOf (place .m)) (place .port) m;
     }
+
+-- and a fault of it, 002 or 003, names no place
+bad-address : (n : Name) (place : Place) → (addressFault n place ≡ 0 → ⊥) → oneOf unaddressed (addressFault n place) ≡ true
+unfolding addressFault
+bad-address n place =
+    let P : ℕ → Type 0 = λ number. (number ≡ 0 → ⊥) → oneOf unaddressed number ≡ true in
+    cond-case P (not (hasModule n (place .m))) 2 _ (λ _ _. refl) λ _.
+    cond-case P (ltb (place .port) 1) 3 _ (λ _ _. refl) λ _.
+    cond-case P (ltb (portsOf (place .m)) (place .port)) 3 0 (λ _ _. refl) λ _ z. absurd (z refl)
 
 -- where it is one of the infrared module, and where it is one of the relays
 infrared : {n : Name} {place : Place} → Taken n place → eqb (place .m) 1 ≡ true → ConnectorAt place
@@ -104,13 +122,14 @@ unfolding addressed
 addressed-within s n = go (addressAt s (afterComma s (length (nameOf n))))
   where
     go : (a : Address) → Within (addressRead s n a)
-    go address.Bad = tt
+    go address.Bad = unnamed refl
     go (address.At place end) =
         cond-case Within (eqb (addressFault n place) 0) _ _
-        (λ e. at-address-within s n place end (taken n place (eqb-true _ 0 e))) (λ _. tt)
+        (λ e. at-address-within s n place end (taken n place (eqb-true _ 0 e)))
+        (λ e. unnamed (bad-address n place (eqb-false _ 0 e)))
 
 asked-within : (s : List ℕ) (r : WordRead) → Within (asked s r)
-asked-within s Unknown = tt
+asked-within s Unknown = unnamed refl
 asked-within s (Known (Alone fixed)) = alone-within s (length (fixedWord fixed)) (Fixed fixed) tt
 asked-within s (Known (Named n)) = addressed-within s n
 
@@ -118,6 +137,6 @@ asked-within s (Known (Named n)) = addressed-within s n
 pub within : (s : List ℕ) → Within (readRequest s)
 unfolding readRequest
 within s =
-    cond-case Within (ltb 4096 (length s)) (fault 15) _ (λ _. tt) λ _.
-    cond-case Within (not (all isPrintable s)) (fault 1) _ (λ _. tt) λ _.
+    cond-case Within (ltb 4096 (length s)) (fault 15) _ (λ _. unnamed refl) λ _.
+    cond-case Within (not (all isPrintable s)) (fault 1) _ (λ _. unnamed refl) λ _.
     asked-within s (wordAt s)

@@ -1,8 +1,10 @@
--- What document 01's limits say of a request, case by case. A fault and a request without an address are within them anyway. That every
--- line's request is within them is the theorem `within` of proofs/Accepted.antt.
+-- What document 01's limits say of a request, case by case. A fault is one of those that a line can have by itself, and a request without an
+-- address is within the limits anyway. That every line's request is within them is the theorem `within` of proofs/Accepted.antt.
 use Prim.Native.Nat.{ℕ, _≤_}
 use mathlib.Core.Path.{_≡_}
 use mathlib.Core.Bool.{true}
+use mathlib.Core.List.{List, [], _∷_}
+use Rattle.laws.specs.Checks.{oneOf}
 use Rattle.words.specs.Places.{connectors, relays}
 use Rattle.request.specs.declared.Place.{Place}
 use Rattle.request.specs.declared.Ask.{Ask}
@@ -11,6 +13,7 @@ use Rattle.request.specs.declared.Turn.{Turn}
 use Rattle.request.specs.declared.Turn.the-variants.{Set, Get}
 use Rattle.request.specs.declared.Request.{Request}
 use Rattle.request.specs.declared.Request.the-variants.{Fault, Fixed, Connector, Relay}
+use Rattle.request.specs.Place.{nowhere}
 use Rattle.request.specs.Mode.{mayHave}
 
 -- a place where an infrared connector is
@@ -24,6 +27,17 @@ pub record RelayAt (place : Place) : Type 0 where
   pub relay : place .m ≡ 2
   pub least : 1 ≤ place .port
   pub most : place .port ≤ relays
+
+-- "For 001, 002, 003, 015 and 017 the address is 0:0"
+abbrev pub unaddressed : List ℕ
+unaddressed = 15 ∷ 1 ∷ 17 ∷ 2 ∷ 3 ∷ []
+
+-- the faults of a line that do not depend on the hub's state, each with the place that it names
+pub data PossibleFault : ℕ → Place → Type 0 where
+  unnamed : {n : ℕ} → oneOf unaddressed n ≡ true → PossibleFault n nowhere
+  no-mode : {place : Place} → ConnectorAt place → PossibleFault 23 place
+  no-blaster : {place : Place} → ConnectorAt place → (place .port ≡ 3 → ⊥) → PossibleFault 14 place
+  no-state : {place : Place} → RelayAt place → PossibleFault 23 place
 
 -- a mode is one that the connector may have
 abbrev pub AskWithin : ℕ → Ask → Type 0
@@ -39,7 +53,7 @@ TurnWithin (Set state) = state ≤ 1
 TurnWithin Get = Unit
 
 abbrev pub Within : Request → Type 0
-Within (Fault number place) = Unit
+Within (Fault number place) = PossibleFault number place
 Within (Fixed fixed) = Unit
 Within (Connector place ask) = ConnectorAt place × AskWithin (place .port) ask
 Within (Relay place turn) = RelayAt place × TurnWithin turn

@@ -3,6 +3,8 @@
 //! where something was not reached or the two differ; then it prints the shortest script it finds that still shows the difference.
 //! compare notice FIRST COUNT LINES HUB BENCH..: prints the first seed whose script shows a difference, and fails if none does.
 
+#[path = "programs.rs"]
+mod programs;
 #[path = "reached.rs"]
 mod reached;
 #[path = "scripts.rs"]
@@ -11,27 +13,14 @@ mod scripts;
 
 use reached::{aims, Aim, Tally};
 use scripts::hub::script_lines;
-use std::io::Write;
-use std::process::{exit, Command, Stdio};
+use std::process::exit;
 use std::sync::atomic::{AtomicU64, Ordering};
 use std::sync::Mutex;
 use std::time::Instant;
 
-/// What a program prints on a script. A program that fails tells nothing, so it ends the comparison.
+/// What a program prints on a script. A program that fails ends the comparison.
 fn output(words: &[String], script: &[u8]) -> Vec<u8> {
-    let spawned = Command::new(&words[0]).args(&words[1..]).stdin(Stdio::piped()).stdout(Stdio::piped()).spawn();
-    let mut child = spawned.unwrap_or_else(|error| fail(&format!("{}: {error}", words[0])));
-    let input = child.stdin.take();
-    let done = std::thread::scope(|scope| {
-        // A program may end before it has read everything; its status then says why.
-        scope.spawn(move || input.map(|mut input| input.write_all(script)));
-        child.wait_with_output()
-    });
-    match done {
-        Ok(output) if output.status.success() => output.stdout,
-        Ok(output) => fail(&format!("{}: {}", words[0], output.status)),
-        Err(error) => fail(&format!("{}: {error}", words[0])),
-    }
+    programs::output(words, script).unwrap_or_else(|why| fail(&why))
 }
 
 fn fail(why: &str) -> ! {

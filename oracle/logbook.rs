@@ -244,7 +244,7 @@ impl Sendir<'_> {
         for pair in self.counts.chunks(2) {
             let known = lettered.iter().position(|other| *other == pair);
             if let (true, Some(index)) = (self.lettered, known) {
-                code.push(char::from(b"ABCDEFGHIJKLMNO"[index]));
+                code.push(char::from(b'A' + index as u8));
                 continue;
             }
             if code.ends_with(|last: char| last.is_ascii_digit()) {

@@ -89,7 +89,7 @@ fn form_of(word: &[u8]) -> FormRead {
 }
 
 // The form and the counts behind it.
-fn code_of(s: &[u8], at: usize, command: Command, counts: &mut [u64; item::KEPT]) -> Asked {
+fn code_of(s: &[u8], at: usize, command: Command, counts: &mut [u64]) -> Asked {
     if s.len() <= at {
         return Asked::Other;
     }
@@ -104,7 +104,7 @@ fn code_of(s: &[u8], at: usize, command: Command, counts: &mut [u64; item::KEPT]
 }
 
 // sendir M P ID FREQ REPEAT OFFSET FORM N ..
-fn sendir(s: &[u8], at: usize, place: Place, counts: &mut [u64; item::KEPT]) -> Asked {
+fn sendir(s: &[u8], at: usize, place: Place, counts: &mut [u64]) -> Asked {
     let Digits::Good(id, a) = item::number_at(s, at) else {
         return Asked::Other;
     };
@@ -127,7 +127,7 @@ fn sendir(s: &[u8], at: usize, place: Place, counts: &mut [u64; item::KEPT]) -> 
 }
 
 // The name stands behind a first byte and a space.
-pub fn asked_of(s: &[u8], counts: &mut [u64; item::KEPT]) -> Asked
+pub fn asked_of(s: &[u8], counts: &mut [u64]) -> Asked
     requires { ⌜ 2 ≤ length (now s) ⌝ }
 {
     let end = scan::end_at(s, 2, b' ');

@@ -13,9 +13,6 @@ pub enum PlaceRead {
     Good(Place, usize),
 }
 
-// Of the counts of a sendir as many are kept as show that they are too many.
-pub const KEPT: usize = 521;
-
 // How many counts there are up to the line's end, or another form.
 pub enum Counts {
     Bad,
@@ -84,8 +81,15 @@ pub fn place_at(s: &[u8], at: usize) -> PlaceRead {
     PlaceRead::Good(Place { m, port }, end)
 }
 
-// All the numbers from a place to the line's end, of which there may be none.
-pub fn counts_at(s: &[u8], at: usize, counts: &mut [u64; KEPT]) -> Counts {
+// Keeps a count at its place, if there is room.
+fn keep(counts: &mut [u64], n: usize, value: u64) {
+    if n < counts.len() {
+        counts[n] = value;
+    }
+}
+
+// All the numbers from a place to the line's end, of which there may be none; as many are kept as there is room for.
+pub fn counts_at(s: &[u8], at: usize, counts: &mut [u64]) -> Counts {
     let mut end = at;
     let mut n: usize = 0;
     // a line has fewer numbers than bytes
@@ -96,9 +100,7 @@ pub fn counts_at(s: &[u8], at: usize, counts: &mut [u64; KEPT]) -> Counts {
         let Digits::Good(value, next) = number_at(s, end) else {
             return Counts::Bad;
         };
-        if n < KEPT {
-            counts[n] = value;
-        }
+        keep(counts, n, value);
         end = next;
         n += 1;
     }

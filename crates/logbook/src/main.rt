@@ -89,6 +89,7 @@ fn fed(state: State, line: &mut [u8], out: &mut [u8], block: &[u8]) -> State
             begun = taken(begun, line, part);
             return State { book, begun, used };
         }
+        let next = end + 1;
         let all = ended(begun, line, part);
         let text = line_of(all, part, line);
         let from = output::with_room(out, used);
@@ -96,7 +97,7 @@ fn fed(state: State, line: &mut [u8], out: &mut [u8], block: &[u8]) -> State
         used = turned.used;
         book = turned.book;
         begun = Begun::nothing();
-        i = end + 1;
+        i = next;
     }
     State { book, begun, used }
 }

@@ -17,6 +17,9 @@ ghost use Prim.Native.Nat.{_≤_};
 ghost use lib.ListN.{length};
 ghost use Rattle.logbook.specs.Book.{SoundBook};
 
+// Of the counts of a sendir as many are kept as show that they are too many.
+const KEPT: usize = 521;
+
 // How many bytes are to be written, and the tallies.
 pub struct Turned {
     pub used: usize,
@@ -69,14 +72,12 @@ fn no_mode(place: Place, out: &mut [u8], used: usize) -> usize {
     }
 }
 
-// How many of so many counts are kept.
-fn kept(count: usize) -> usize
-    ensures { λ r. ⌜ r ≤ 521 ⌝ }
-{
-    if count < item::KEPT {
-        count
+// The counts that are kept of so many.
+fn kept(counts: &[u64], count: usize) -> &[u64] {
+    if count <= counts.len() {
+        &counts[..count]
     } else {
-        item::KEPT
+        counts
     }
 }
 
@@ -93,17 +94,15 @@ fn compose_sendir(
 }
 
 // > and a request
-fn ask(s: &[u8], out: &mut [u8], used: usize) -> usize
+fn ask(s: &[u8], counts: &mut [u64], out: &mut [u8], used: usize) -> usize
     requires { ⌜ 2 ≤ length (now s) ⌝ }
 {
-    let mut counts = [0u64; item::KEPT];
-    match asked::asked_of(s, &mut counts) {
+    match asked::asked_of(s, counts) {
         Asked::Other => output::put_other(out, used),
         Asked::Wish(wish) => compose(wish, out, used),
         Asked::NoMode(place) => no_mode(place, out, used),
         Asked::Sendir(form, command, count) => {
-            let size = kept(count);
-            compose_sendir(form, command, &counts[..size], out, used)
+            compose_sendir(form, command, kept(counts, count), out, used)
         }
     }
 }
@@ -120,7 +119,8 @@ fn answer(book: Book, s: &[u8], over: bool, out: &mut [u8], used: usize) -> usiz
         return output::put_other(out, used);
     }
     if s[0] == b'>' {
-        return ask(s, out, used);
+        let mut counts = [0u64; KEPT];
+        return ask(s, &mut counts, out, used);
     }
     if s[0] == b'=' {
         return average(book, s, out, used);

@@ -2,7 +2,7 @@
 -- (014 too)". The number is 0 where nothing is wrong. That it is the number that the hub's own reading gives to the request spelled out are the
 -- theorems `refused-as-read` and `sendir-refused-as-read` of proofs/Refused.antt.
 use Prim.Native.Nat.{ℕ, _%_}
-use mathlib.Core.Bool.{Bool, not}
+use mathlib.Core.Bool.{not}
 use mathlib.Core.List.{List, [], _∷_}
 use lib.Dec.{ltb, leb, eqb}
 use lib.ListN.{length, take}

@@ -18,7 +18,7 @@ use Rattle.logger.specs.declared.Heard.the-variants.{NotReply, State, Complete,
 use Rattle.logger.specs.Heard.{isConnector, isRelay, writable}
 use Rattle.logger.specs.Tally.{samePlace, tells, mostLines, tallied, howMany, isReading}
 use Rattle.logger.proofs.Tallies.{tally-counts}
-use Rattle.logged.specs.Filed.{stateIn, statesOf, Filed}
+use Rattle.logged.specs.Filed.{statesOf, Filed}
 use Rattle.logged.specs.Average.{MadeOfReadings}
 use Rattle.logged.proofs.Texts.{says-writable}
 

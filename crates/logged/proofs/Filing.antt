@@ -1,15 +1,14 @@
 -- From contact to file: what a logger hears of all that is written to its connection is what was said, one for one and in order, and a
 -- contact's 0 or 1 among it was the contact's last reading when it was asked for.
-use Prim.Native.Nat.{ℕ, _≤_}
+use Prim.Native.Nat.{ℕ}
 use mathlib.Core.Path.{_≡_, refl, sym, ap, _∙_}
-use mathlib.Core.Bool.{true, false, cond, _&&_, _||_}
+use mathlib.Core.Bool.{true, cond, _||_}
 use mathlib.Core.List.{List, [], _∷_, _++_, map, flatten, append-assoc}
-use mathlib.Core.Logic.{_⊎_}
 use mathlib.Core.Option.{Option}
 use mathlib.Core.Option as option
 use native.Mathlib.Omega.{arith}
 use borrow.Author.Tests.{eqb-true, eq-eqb, leb-true}
-use lib.Dec.{ltb, eqb, leb}
+use lib.Dec.{ltb, leb}
 use lib.ListN.{length, getD}
 use Rattle.laws.specs.Checks.{between}
 use Rattle.laws.specs.Lists.{all}
@@ -22,7 +21,6 @@ use Rattle.meaning.specs.Table.{Completion, Answer, refused, taken, replied, Ju
 use Rattle.theorems.specs.Deeds.{Port}
 use Rattle.theorems.specs.Contacts.{LastReading}
 use Rattle.theorems.proofs.Contacts.{state-is-last-reading, state-told-to-asker, reading-is-from-a-call}
-use Rattle.theorems.proofs.Deeds.{owner-is}
 use Rattle.request.specs.declared.Place.{Place}
 use Rattle.request.specs.Place.{placeOf}
 use Rattle.lines.specs.Cut.{Line, whole, linesOf}
@@ -41,7 +39,7 @@ use Rattle.logger.proofs.Back.{one-heard, heard-line}
 use Rattle.logger.proofs.Plain.{lines-spoken}
 use Rattle.logger.proofs.Tallies.{same-place-is}
 use Rattle.logged.specs.Written.{asker, forOne, noticesTo, writtenBy, writtenTo}
-use Rattle.logged.specs.Filed.{Says, silent, speaks, stateIn, statesOf, Readings, over, told, other, Heards, ended, reads, Filed}
+use Rattle.logged.specs.Filed.{Says, silent, speaks, statesOf, Readings, over, told, other, Heards, ended, reads, Filed}
 use Rattle.logged.proofs.Said.{Speaks, alone, devices, Notices, none, more, AnswerSpeaks, with-last, answer-speaks}
 use Rattle.logged.proofs.Texts.{says-stream, says-writable, says-append}
 
@@ -139,7 +137,10 @@ module _ (h : List Call) (connection : ℕ) where
         let small = leb-true v 1 (and-left (leb v 1) (isRelay (placeOf 1 p) || isConnector (placeOf 1 p)) may) in
         let port : between 1 connectors p ≡ true = and-right (leb v 1) (isRelay (placeOf 1 p) || isConnector (placeOf 1 p)) may in
         let is : Port connectors p =
-        record { least = leb-true 1 p (and-left (leb 1 p) (leb p connectors) port); most = leb-true p connectors (and-right (leb 1 p) (leb p connectors) port) } in
+        record {
+          least = leb-true 1 p (and-left (leb 1 p) (leb p connectors) port);
+          most = leb-true p connectors (and-right (leb 1 p) (leb p connectors) port);
+        } in
         let nobody = state-told-to-asker (logOf h) p v also is small call e in
         let last = reading-is-from-a-call p v h (state-is-last-reading (logOf h) p v also is small call e .1) in
         let said : answerOf (judge (logOf h) call) ≡ replied (text.line "state," 1 p (decimal v)) option.none = rw nobody at e in
@@ -157,12 +158,15 @@ module _ (h : List Call) (connection : ℕ) where
         record {
           heard = heardBy connection (asker call) (State a v ∷ []) ++ heardBy connection also (State a v ∷ []);
           says = says-append (for-one-says connection (asker call) (alone (State a v) may)) (for-one-says connection also (alone (State a v) may));
-          contacts = λ p. by-test (samePlace a (placeOf 1 p)) (λ same. here p (same-place-is a (placeOf 1 p) same)) (λ differs. both-quiet p (State a v ∷ []) also (rw differs));
+          contacts = λ p. by-test (samePlace a (placeOf 1 p))
+              (λ same. here p (same-place-is a (placeOf 1 p) same)) (λ differs. both-quiet p (State a v ∷ []) also (rw differs));
         }
       where
         here : (p : ℕ) → a ≡ placeOf 1 p
             → Told h call connection p (statesOf (placeOf 1 p) (heardBy connection (asker call) (State a v ∷ []) ++ heardBy connection also (State a v ∷ [])))
-        here p is = rw is (state-told p v also (rw is at may) (rw is at e ∙ ap (λ (words : List ℕ). replied words also) (sym (with-last "state," (placeOf 1 p) (decimal v)))))
+        here p is =
+            let words = sym (with-last "state," (placeOf 1 p) (decimal v)) in
+            rw is (state-told p v also (rw is at may) (rw is at e ∙ ap (λ (w : List ℕ). replied w also) words))
 
     replied-filed : {words : List ℕ} (x : Speaks words) (also : Option ℕ) → answerOf (judge (logOf h) call) ≡ replied words also
         → CallFiled h call connection (forOne connection (asker call) words ++ forOne connection also words)

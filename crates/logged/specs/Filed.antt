@@ -1,13 +1,14 @@
 -- From contact to file: what a logger at one connection hears of all that is written to it, and what it hears of a contact.
 use Prim.Native.Nat.{ℕ}
 use mathlib.Core.Path.{_≡_}
-use mathlib.Core.Bool.{true, cond}
+use mathlib.Core.Bool.{Bool, true, false, cond}
 use mathlib.Core.List.{List, [], _∷_, _++_, map}
 use mathlib.Core.Option.{none}
+use lib.Dec.{eqb}
 use Rattle.laws.specs.Lists.{all}
 use Rattle.words.specs.Decimal.{decimal}
 use Rattle.meaning.specs.Line as text
-use Rattle.meaning.specs.Table.{replied, answerOf, Call, line, judge, logOf}
+use Rattle.meaning.specs.Table.{replied, answerOf, Call, line, overlong, reading, closing, waiting, judge, logOf}
 use Rattle.theorems.specs.Contacts.{LastReading}
 use Rattle.request.specs.declared.Place.{Place}
 use Rattle.request.specs.Place.{placeOf}
@@ -52,6 +53,14 @@ pub data Readings (connection p : ℕ) : List Call → List Call → List ℕ �
       → answerOf (judge (logOf h) (line connection room s)) ≡ replied (text.line "state," 1 p (decimal v)) none → LastReading h p v
       → Readings connection p (line connection room s ∷ h) calls vs → Readings connection p h (line connection room s ∷ calls) (v ∷ vs)
   other : {h calls : List Call} {vs : List ℕ} (call : Call) → Readings connection p (call ∷ h) calls vs → Readings connection p h (call ∷ calls) vs
+
+-- a call that reads contact p
+abbrev pub isReadingOf : ℕ → Call → Bool
+isReadingOf p (line connection room s) = false
+isReadingOf p (overlong connection room) = false
+isReadingOf p (reading q value) = eqb q p
+isReadingOf p (closing connection) = false
+isReadingOf p (waiting n) = false
 
 -- what a connection was written by calls after a history, as texts, and what the lines of it are read as
 pub record Filed (h calls : List Call) (connection : ℕ) (texts : List (List ℕ)) (lines : List Line) : Type 0 where

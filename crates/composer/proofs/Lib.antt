@@ -7,3 +7,4 @@ pub mod Wishes
 pub mod Sendirs
 pub mod Refused
 pub mod Accepted
+pub mod Worked

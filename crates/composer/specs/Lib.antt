@@ -1,3 +1,4 @@
 pub mod Fault
 pub mod Compose
 pub mod Composed
+pub mod Worked

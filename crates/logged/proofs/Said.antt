@@ -7,16 +7,15 @@ use mathlib.Core.List.{List, [], _∷_, _++_, append-assoc}
 use mathlib.Core.Option.{Option, some, Option·getD}
 use mathlib.Core.Option as option
 use native.Mathlib.Omega.{arith}
-use borrow.Author.Tests.{eqb-true, le-leb, not-true, not-false}
+use borrow.Author.Tests.{le-leb, not-true, not-false}
 use lib.Dec.{eqb, ltb}
 use Rattle.laws.specs.Bytes.{bytes}
 use Rattle.laws.specs.Checks.{between, isSome}
-use Rattle.laws.specs.Lists.{part, behind}
-use Rattle.laws.proofs.Choice.{by-test, cond-case, not-both, and-right}
+use Rattle.laws.specs.Lists.{all, part, behind, gathered}
+use Rattle.laws.proofs.Choice.{cond-case, and-left, and-right}
 use Rattle.laws.proofs.Checks.{Through, through, past, some-of, one-of-all}
-use Rattle.laws.proofs.Lists.{same-is}
 use Rattle.words.specs.Decimal.{decimal, threeDigits}
-use Rattle.words.specs.Places.{connectors, relays, portsOf}
+use Rattle.words.specs.Places.{connectors, relays, portsOf, ports}
 use Rattle.request.specs.declared.Place.{Place}
 use Rattle.request.specs.declared.mode.Mode as mode
 use Rattle.request.specs.declared.mode.Mode.the-variants.{Ir, Sensor, IrBlaster}
@@ -30,7 +29,7 @@ use Rattle.meaning.specs.Table as table
 use Rattle.meaning.specs.Table.{Completion, Answer, refused, taken, replied, Judged, refusal, error, does, answerOf, Row, Call, line, overlong, reading, closing, waiting, rowOf, judge, logOf, dueOf, due, inserted, ordered, completions}
 use Rattle.theorems.specs.Deeds.{ModeWord, ir, sensor, blaster, Did, nothing, changes, reads, switches, starts, renews, halts, leaves, passes}
 use Rattle.theorems.specs.Occasion as occasion
-use Rattle.theorems.proofs.Deeds.{within-is, did}
+use Rattle.theorems.proofs.Deeds.{within-is, mode-of, did}
 use Rattle.theorems.proofs.Words.{mode-word}
 use Rattle.theorems.proofs.Contacts.{reading-is-from-a-call}
 use Rattle.theorems.proofs.Times.{BegunBy, last-begun, on-air-is}
@@ -155,9 +154,13 @@ module _ (n : ℕ) (h : List Call) where
           more p id (rw (le-leb id 65535 (air-id h p s e), port)) (with-last "completeir," (placeOf 1 p) (decimal id)) none)
           (λ _. none)
 
+  all-due : (l : List ℕ) → all (between 1 connectors) l ≡ true → Notices (gathered (due n (logOf h)) l)
+  all-due [] e = none
+  all-due (p ∷ l) e =
+      notices-append (due-notices p (and-left (between 1 connectors p) _ e)) (all-due l (and-right (between 1 connectors p) _ e))
+
   completions-notices : Notices (completions n (logOf h))
-  completions-notices =
-      notices-ordered (notices-append (due-notices 1 refl) (notices-append (due-notices 2 refl) (notices-append (due-notices 3 refl) none)))
+  completions-notices = notices-ordered (all-due ports refl)
 
 -- ---- every row: 014 stands with no connector 3, and what is said is spoken
 
@@ -193,18 +196,9 @@ module _ (h : List Call) (connection : ℕ) (s : List ℕ) where
       record {
         each = past refl (λ _. past refl (λ _. past refl (λ e. past refl (λ word. (
           λ third. not-true (eqb p 3) (and-right (is "IR_BLASTER" (field 2)) _ third),
-          λ third. past refl (λ _. past refl (λ _. mode-speaks p (port e) (mode-of (not-false _ word) third))),
+          λ third. past refl (λ _. past refl (λ _. mode-speaks p (port e) (mode-of p (field 2) word third))),
         )))));
       }
-    where
-      mode-of : (is "IR" (field 2) || is "SENSOR" (field 2) || is "IR_BLASTER" (field 2)) ≡ true
-          → (is "IR_BLASTER" (field 2) && not (eqb p 3)) ≡ false → ModeWord p (field 2)
-      mode-of e f =
-          by-test (is "IR" (field 2)) (λ t. ir (sym (same-is _ (field 2) t))) λ t.
-          by-test (is "SENSOR" (field 2)) (λ u. sensor (sym (same-is _ (field 2) u))) λ u.
-          by-test (is "IR_BLASTER" (field 2))
-          (λ v. blaster (sym (same-is _ (field 2) v)) (eqb-true p 3 (not-false (eqb p 3) (rw v at f))))
-          (λ v. not-both (rw (t, u, v) at e) refl)
 
   get-IR-fits : Fitting (table.get-IR log connection s)
   unfolding table.get-IR

@@ -54,7 +54,7 @@ or-right false b e = e
 is-odd : (n : ℕ) → eqb (n % 2) 0 ≡ false → n % 2 ≡ 1
 is-odd n e = let h = eqb-false (n % 2) 0 e in omega arith
 
-mode-of : (p : ℕ) (word : List ℕ) → not (is "IR" word || is "SENSOR" word || is "IR_BLASTER" word) ≡ false
+pub mode-of : (p : ℕ) (word : List ℕ) → not (is "IR" word || is "SENSOR" word || is "IR_BLASTER" word) ≡ false
     → (is "IR_BLASTER" word && not (eqb p 3)) ≡ false → ModeWord p word
 mode-of p word e f =
     or-cases (is "IR" word || is "SENSOR" word) (is "IR_BLASTER" word) (not-false _ e)

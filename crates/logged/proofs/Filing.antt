@@ -1,6 +1,6 @@
 -- From contact to file: what a logger hears of all that is written to its connection is what was said, one for one and in order, and a
 -- contact's 0 or 1 among it was the contact's last reading when it was asked for.
-use Prim.Native.Nat.{ℕ}
+use Prim.Native.Nat.{ℕ, _≤_}
 use mathlib.Core.Path.{_≡_, refl, sym, ap, _∙_}
 use mathlib.Core.Bool.{true, cond, _||_}
 use mathlib.Core.List.{List, [], _∷_, _++_, map, flatten, append-assoc}
@@ -19,7 +19,8 @@ use Rattle.meaning.specs.Line as text
 use Rattle.meaning.specs.Log.{isOwner}
 use Rattle.meaning.specs.Table.{Completion, Answer, refused, taken, replied, Judged, error, answerOf, Call, line, overlong, reading, closing, waiting, Said, judge, logOf, said}
 use Rattle.theorems.specs.Deeds.{Port}
-use Rattle.theorems.specs.Contacts.{LastReading}
+use Rattle.theorems.specs.Contacts.{AsksState, LastReading}
+use Rattle.theorems.proofs.Asked.{state-is-asked-for}
 use Rattle.theorems.proofs.Contacts.{state-is-last-reading, state-told-to-asker, reading-is-from-a-call}
 use Rattle.request.specs.declared.Place.{Place}
 use Rattle.request.specs.Place.{placeOf}
@@ -71,7 +72,7 @@ unheard connection whom place rs e = by-test (isOwner connection whom) (λ o. rw
 -- ---- one call
 data Told (h : List Call) (call : Call) (connection p : ℕ) : List ℕ → Type 0 where
   nothing : Told h call connection p []
-  reading-of : (room : ℕ) (s : List ℕ) (v : ℕ) → call ≡ line connection room s
+  reading-of : (room : ℕ) (s : List ℕ) (v : ℕ) → call ≡ line connection room s → AsksState 1 p connection room s
       → answerOf (judge (logOf h) call) ≡ replied (text.line "state," 1 p (decimal v)) option.none → LastReading h p v
       → Told h call connection p (v ∷ [])
 
@@ -100,14 +101,16 @@ overlong-silent {A} h connection room p v =
 
 module _ (h : List Call) (connection : ℕ) where
   -- the line of the connection itself
-  by-asker : (p v : ℕ) (call : Call) → isOwner connection (asker call) ≡ true
+  by-asker : (p v : ℕ) → Port connectors p → v ≤ 1 → (call : Call) → isOwner connection (asker call) ≡ true
       → answerOf (judge (logOf h) call) ≡ replied (text.line "state," 1 p (decimal v)) option.none → LastReading h p v
       → Told h call connection p (v ∷ [])
-  by-asker p v (line c room s) o e l = let is = eqb-true c connection o in reading-of room s v (rw is) e l
-  by-asker p v (overlong c room) o e l = overlong-silent h c room p v e
-  by-asker p v (reading q value) o e l = not-both o refl
-  by-asker p v (closing c) o e l = not-both o refl
-  by-asker p v (waiting n) o e l = not-both o refl
+  by-asker p v port small (line c room s) o e l =
+      let is = eqb-true c connection o in
+      reading-of room s v (rw is) (rw is at (state-is-asked-for (logOf h) p v option.none port small c room s e)) e l
+  by-asker p v port small (overlong c room) o e l = overlong-silent h c room p v e
+  by-asker p v port small (reading q value) o e l = not-both o refl
+  by-asker p v port small (closing c) o e l = not-both o refl
+  by-asker p v port small (waiting n) o e l = not-both o refl
 
   module _ (call : Call) where
     both-quiet : (p : ℕ) (rs : List Heard) (also : Option ℕ) → statesOf (placeOf 1 p) rs ≡ []
@@ -146,7 +149,7 @@ module _ (h : List Call) (connection : ℕ) where
         let said : answerOf (judge (logOf h) call) ≡ replied (text.line "state," 1 p (decimal v)) option.none = rw nobody at e in
         rw nobody
         (by-test (isOwner connection (asker call))
-        (λ o. rw (o, eq-eqb p p refl) (by-asker p v call o said last)) (λ o. rw o nothing))
+        (λ o. rw (o, eq-eqb p p refl) (by-asker p v is small call o said last)) (λ o. rw o nothing))
 
     -- a text that tells the state of some place
     state-filed : (a : Place) (v : ℕ) (may : writable (State a v) ≡ true) (also : Option ℕ)
@@ -231,7 +234,7 @@ calls-filed h (call ∷ calls) connection =
     go : (p : ℕ) {vs ws : List ℕ} → Told h call connection p vs → Readings connection p (call ∷ h) calls ws
         → Readings connection p h (call ∷ calls) (vs ++ ws)
     go p nothing r = other call r
-    go p (reading-of room s v is e l) r = rw is (told room s v (rw is at e) l (rw is at r))
+    go p (reading-of room s v is asks e l) r = rw is (told room s v asks (rw is at e) l (rw is at r))
 
 -- ---- and what the logger reads of it
 heards-all : (rs : List Heard) → all writable rs ≡ true → Heards (map (λ r. whole (lineOf r)) rs) rs

@@ -23,7 +23,7 @@ module _ (p : ℕ) where
 
   none-told : {connection : ℕ} {h calls : List Call} {vs : List ℕ} → Readings connection p h calls vs → Without h → Without calls → vs ≡ []
   none-told over a b = refl
-  none-told (told room s v e last rest) a b = reading-among (last .later) (last .earlier) v (rw (last .splits) at a)
+  none-told (told room s v asks e last rest) a b = reading-among (last .later) (last .earlier) v (rw (last .splits) at a)
   none-told {h = h} (other {calls = calls} call rest) a b =
       none-told rest
       (and-true (not (isReadingOf p call)) _ (and-left (not (isReadingOf p call)) _ b) a)

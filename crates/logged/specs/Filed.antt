@@ -9,7 +9,7 @@ use Rattle.laws.specs.Lists.{all}
 use Rattle.words.specs.Decimal.{decimal}
 use Rattle.meaning.specs.Line as text
 use Rattle.meaning.specs.Table.{replied, answerOf, Call, line, overlong, reading, closing, waiting, judge, logOf}
-use Rattle.theorems.specs.Contacts.{LastReading}
+use Rattle.theorems.specs.Contacts.{AsksState, LastReading}
 use Rattle.request.specs.declared.Place.{Place}
 use Rattle.request.specs.Place.{placeOf}
 use Rattle.lines.specs.Cut.{Line, whole, streamOf}
@@ -45,12 +45,13 @@ abbrev pub statesOf : Place → List Heard → List ℕ
 statesOf place [] = []
 statesOf place (r ∷ rs) = stateIn place r ++ statesOf place rs
 
--- Numbers that a connection was told of contact p by these calls after a history, each by one call: a line of its own, answered with this
--- number, which was the contact's last reading then. All other calls told it none.
+-- Numbers that a connection was told of contact p by these calls after a history, each by one call: a `getstate,1:p` of its own, answered with
+-- this number, which was the contact's last reading then. All other calls told it none.
 pub data Readings (connection p : ℕ) : List Call → List Call → List ℕ → Type 0 where
   over : {h : List Call} → Readings connection p h [] []
   told : {h calls : List Call} {vs : List ℕ} (room : ℕ) (s : List ℕ) (v : ℕ)
-      → answerOf (judge (logOf h) (line connection room s)) ≡ replied (text.line "state," 1 p (decimal v)) none → LastReading h p v
+      → AsksState 1 p connection room s → answerOf (judge (logOf h) (line connection room s)) ≡ replied (text.line "state," 1 p (decimal v)) none
+      → LastReading h p v
       → Readings connection p (line connection room s ∷ h) calls vs → Readings connection p h (line connection room s ∷ calls) (v ∷ vs)
   other : {h calls : List Call} {vs : List ℕ} (call : Call) → Readings connection p (call ∷ h) calls vs → Readings connection p h (call ∷ calls) vs
 

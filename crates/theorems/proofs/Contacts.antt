@@ -81,7 +81,7 @@ one-digit n v h e =
     omega (arith, ltb-true n 10 t))
     (λ t. absurd (omega (arith, length-append (decimal n) (13 ∷ []), ap length e, two-digits n t)))
 
-state-text : (m q u p v : ℕ) → m < 10 → q < 10 → p < 10 → v < 10
+pub state-text : (m q u p v : ℕ) → m < 10 → q < 10 → p < 10 → v < 10
     → text.line "state," m q (decimal u) ≡ text.line "state," m p (decimal v) → (q ≡ p) × (u ≡ v)
 state-text m q u p v hm hq hp hv e =
     let f = rw (decimal-small m hm, decimal-small q hq, decimal-small p hp, decimal-small v hv) at e in
@@ -89,14 +89,14 @@ state-text m q u p v hm hq hp hv e =
     (omega arith, one-digit u v hv (ap (drop 10) f))
 
 -- no reply that begins so
-abbrev other : List ℕ → Judged → Bool
+abbrev pub other : List ℕ → Judged → Bool
 other w (refusal n) = true
 other w (error n m p) = not (same w (take (length w) (text.line "ERR_" m p (threeDigits n))))
 other w (does (refused n) deeds) = true
 other w (does (taken l) deeds) = true
 other w (does (replied words told) deeds) = not (same w (take (length w) words))
 
-others : {A : Type 0} (w words : List ℕ) (told : Option ℕ) (j : Judged) → same w (take (length w) words) ≡ true → other w j ≡ true
+pub others : {A : Type 0} (w words : List ℕ) (told : Option ℕ) (j : Judged) → same w (take (length w) words) ≡ true → other w j ≡ true
     → answerOf j ≡ replied words told → A
 others w words told (refusal n) s o e = clash (cc)
 others w words told (error n m p) s o e =
@@ -108,11 +108,11 @@ others w words told (does (replied text to) deeds) s o e =
     let f : text ≡ words = cc in
     not-both s (not-true _ (rw f at o))
 
-abbrev otherRow : List ℕ → Row → Bool
+abbrev pub otherRow : List ℕ → Row → Bool
 otherRow w r = all (λ k. other w (k .gives)) (r .checks) && other w (r .otherwise)
 
 -- the port of an address that the table lets pass has one digit
-port-digit : (m : ℕ) (f : List ℕ) → not (text.within 1 (portsOf m) f) ≡ false → text.number f < 10
+pub port-digit : (m : ℕ) (f : List ℕ) → not (text.within 1 (portsOf m) f) ≡ false → text.number f < 10
 port-digit m f e =
     let few : portsOf m < 10 = cond-case (λ (n : ℕ). n < 10) (eqb m 1) connectors relays (λ _. omega arith) (λ _. omega arith) in
     omega (arith, within-is 1 (portsOf m) f e .1)

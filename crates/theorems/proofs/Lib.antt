@@ -8,6 +8,7 @@ pub mod Completing
 pub mod Longest
 pub mod Silent
 pub mod Contacts
+pub mod Asked
 pub mod Later
 pub mod Order
 pub mod Words

@@ -49,11 +49,15 @@ lineOf (Listed d) = deviceLine d
 abbrev pub isNowhere : Place → Bool
 isNowhere a = eqb (a .m) 0 && eqb (a .port) 0
 
+-- one of a module that has so many ports
+abbrev pub isPortOf : ℕ → ℕ → Place → Bool
+isPortOf m ports a = eqb (a .m) m && between 1 ports (a .port)
+
 abbrev pub isConnector : Place → Bool
-isConnector a = eqb (a .m) 1 && between 1 connectors (a .port)
+isConnector a = isPortOf 1 connectors a
 
 abbrev pub isRelay : Place → Bool
-isRelay a = eqb (a .m) 2 && between 1 relays (a .port)
+isRelay a = isPortOf 2 relays a
 
 -- the numbers with each place: five with 0:0, 023 with a relay, all others with a connector, 014 with "a connector other than 3"
 abbrev pub isError : ℕ → Place → Bool

@@ -3,7 +3,7 @@ use crate::Heard;
 use request::Place;
 ghost use mathlib.Core.Path.{_≡_};
 ghost use Rattle.laws.specs.Checks.{oneOf};
-ghost use Rattle.logger.specs.Heard.{isConnector, isRelay, isNowhere, isError, writable};
+ghost use Rattle.logger.specs.Heard.{isPortOf, isConnector, isRelay, isNowhere, isError, writable};
 
 // The greatest id of a command.
 const MOST_ID: u64 = 65535;
@@ -18,28 +18,29 @@ fn is_nowhere(a: Place) -> bool
     a.port == 0
 }
 
-fn is_connector(a: Place) -> bool
-    ensures { λ r. ⌜ r ≡ isConnector a ⌝ }
+// Whether a place is one of a module that has so many ports.
+fn is_port_of(m: u64, ports: usize, a: Place) -> bool
+    ensures { λ r. ⌜ r ≡ isPortOf m ports a ⌝ }
 {
-    if a.m != Place::INFRARED {
+    if a.m != m {
         return false;
     }
     if a.port < 1 {
         return false;
     }
-    a.port <= Place::CONNECTORS as u64
+    a.port <= ports as u64
+}
+
+fn is_connector(a: Place) -> bool
+    ensures { λ r. ⌜ r ≡ isConnector a ⌝ }
+{
+    is_port_of(Place::INFRARED, Place::CONNECTORS, a)
 }
 
 fn is_relay(a: Place) -> bool
     ensures { λ r. ⌜ r ≡ isRelay a ⌝ }
 {
-    if a.m != Place::RELAY {
-        return false;
-    }
-    if a.port < 1 {
-        return false;
-    }
-    a.port <= Place::RELAYS as u64
+    is_port_of(Place::RELAY, Place::RELAYS, a)
 }
 
 // Whether a list has a number.

@@ -2,26 +2,10 @@
 use crate::book::Book;
 ghost use Rattle.logbook.specs.Book.{SoundBook};
 
-// A line that is not ended: its length so far, and whether there was more than has room.
-pub struct Begun {
-    pub size: usize,
-    pub over: bool,
-}
-
-impl Begun {
-    pub fn nothing() -> Self {
-        Begun {
-            size: 0,
-            over: false,
-        }
-    }
-}
-
-// The tallies, the line so far, and how many bytes are to be written.
+// The tallies, and how many bytes of a line there are that no LF has ended yet.
 pub struct State {
     pub book: Book,
-    pub begun: Begun,
-    pub used: usize,
+    pub size: usize,
 }
 
 impl State {
@@ -31,8 +15,7 @@ impl State {
     {
         State {
             book: Book::fresh(),
-            begun: Begun::nothing(),
-            used: 0,
+            size: 0,
         }
     }
 }

@@ -54,27 +54,14 @@ front-requires c κs = search needs
 fed-requires : tie.Need-fed-requires Inv-loop μ-loop
 fed-requires c κs = search needs
 
-slice-aggregate-flushed : tie.Need-slice-aggregate-flushed Inv-loop μ-loop
-slice-aggregate-flushed c = search needs
-
-flushed-requires : tie.Need-flushed-requires Inv-loop μ-loop
-flushed-requires c κs = search needs
-
 sub-turns : tie.Need-sub-turns Inv-loop μ-loop
-sub-turns c =
-    let fed = c .before .before .before .before in
-    omega (arith, fed .before .before .before .before .before .before .before .before .before .before .before .loop-test .taken)
+sub-turns c = search needs
 
 loop-less : tie.Need-loop-less Inv-loop μ-loop
-loop-less c =
-    let fed = c .before .before .before .before in
-    omega (arith, fed .before .before .before .before .before .before .before .before .before .before .before .loop-test .taken)
+loop-less c = search needs
 
 loop-again : tie.Need-loop-again Inv-loop μ-loop
-loop-again c =
-    let fed = c .before .before .before .before in
-    let got = fed .before .before .before .before .before .before .before .before .before in
-    (c .flushed .ensures, omega arith, omega arith, omega (arith, got .read .kept, got .before .before .before .loop .inv))
+loop-again c = search needs
 
 returns-2 : tie.Need-returns-2 Inv-loop μ-loop
 returns-2 c = search needs
@@ -98,8 +85,6 @@ run-spec =
     slice-aggregate-front
     front-requires
     fed-requires
-    slice-aggregate-flushed
-    flushed-requires
     sub-turns
     loop-less
     loop-again

@@ -1,7 +1,7 @@
 // A line that asks for a request, without its LF.
 use crate::item;
 use crate::item::Counts;
-use crate::item::Digits;
+use crate::item::NumberRead;
 use crate::item::PlaceRead;
 use crate::scan;
 use command::given::Command;
@@ -73,8 +73,8 @@ fn set_mode(s: &[u8], at: usize, place: Place) -> Asked {
 
 fn set_state(s: &[u8], at: usize, place: Place) -> Asked {
     match item::last_at(s, at) {
-        Digits::Bad => Asked::Other,
-        Digits::Good(state, _) => Asked::Wish(Wish::SetState(place, state)),
+        NumberRead::Bad => Asked::Other,
+        NumberRead::Good(state, _) => Asked::Wish(Wish::SetState(place, state)),
     }
 }
 
@@ -105,16 +105,16 @@ fn code_of(s: &[u8], at: usize, command: Command, counts: &mut [u64]) -> Asked {
 
 // sendir M P ID FREQ REPEAT OFFSET FORM N ..
 fn sendir(s: &[u8], at: usize, place: Place, counts: &mut [u64]) -> Asked {
-    let Digits::Good(id, a) = item::number_at(s, at) else {
+    let NumberRead::Good(id, a) = item::number_at(s, at) else {
         return Asked::Other;
     };
-    let Digits::Good(freq, b) = item::number_at(s, a) else {
+    let NumberRead::Good(freq, b) = item::number_at(s, a) else {
         return Asked::Other;
     };
-    let Digits::Good(repeat, c) = item::number_at(s, b) else {
+    let NumberRead::Good(repeat, c) = item::number_at(s, b) else {
         return Asked::Other;
     };
-    let Digits::Good(offset, d) = item::number_at(s, c) else {
+    let NumberRead::Good(offset, d) = item::number_at(s, c) else {
         return Asked::Other;
     };
     let fields = Given {

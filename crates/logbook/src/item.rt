@@ -1,8 +1,15 @@
 // The items of a line, each behind one space.
+use crate::scan;
 use request::Place;
 
-// A number of 1 to 10 digits and the place behind it, or none.
-pub enum Digits {
+// What a word is: a number of 1 to 10 digits, or none.
+enum Number {
+    Bad,
+    Good(u64),
+}
+
+// A number and the place behind it, or none.
+pub enum NumberRead {
     Bad,
     Good(u64, usize),
 }
@@ -19,63 +26,59 @@ pub enum Counts {
     Good(usize),
 }
 
-// What so many digits are that end before next.
-fn digits_of(value: u64, count: usize, next: usize) -> Digits {
-    if count == 0 {
-        Digits::Bad
-    } else {
-        Digits::Good(value, next)
+fn number_of(word: &[u8]) -> Number {
+    if word.len() == 0 {
+        return Number::Bad;
     }
-}
-
-fn digits_at(s: &[u8], at: usize) -> Digits {
+    if word.len() > 10 {
+        return Number::Bad;
+    }
     let mut value: u64 = 0;
-    let mut count: usize = 0;
-    let mut i = at;
-    while i < s.len() {
-        let b = s[i];
+    let mut i = 0;
+    while i < word.len() {
+        let b = word[i];
         if !text::number::is_digit(b) {
-            return digits_of(value, count, i);
-        }
-        if count == 10 {
-            return Digits::Bad;
+            return Number::Bad;
         }
         value = value * 10 + (b % 16) as u64;
-        count += 1;
         i += 1;
     }
-    digits_of(value, count, i)
+    Number::Good(value)
 }
 
-// A space and a number.
-pub fn number_at(s: &[u8], at: usize) -> Digits {
+// A space and a number, up to the next space or the line's end.
+pub fn number_at(s: &[u8], at: usize) -> NumberRead {
     if s.len() <= at {
-        return Digits::Bad;
+        return NumberRead::Bad;
     }
-    if s[at] == b' ' {
-        digits_at(s, at + 1)
-    } else {
-        Digits::Bad
+    if s[at] != b' ' {
+        return NumberRead::Bad;
+    }
+    let from = at + 1;
+    let end = scan::end_at(s, from, b' ');
+    match number_of(&s[from..end]) {
+        Number::Bad => NumberRead::Bad,
+        Number::Good(value) => NumberRead::Good(value, end),
     }
 }
 
 // A space and a number that the line ends with.
-pub fn last_at(s: &[u8], at: usize) -> Digits {
-    let Digits::Good(value, end) = number_at(s, at) else {
-        return Digits::Bad;
+pub fn last_at(s: &[u8], at: usize) -> NumberRead {
+    let NumberRead::Good(value, end) = number_at(s, at) else {
+        return NumberRead::Bad;
     };
     if end == s.len() {
-        Digits::Good(value, end)
+        NumberRead::Good(value, end)
     } else {
-        Digits::Bad
+        NumberRead::Bad
     }
 }
 
 pub fn place_at(s: &[u8], at: usize) -> PlaceRead {
-    let Digits::Good(m, between) = number_at(s, at) else {
+    let NumberRead::Good(m, between) = number_at(s, at) else {
         return PlaceRead::Bad;
     };
-    let Digits::Good(port, end) = number_at(s, between) else {
+    let NumberRead::Good(port, end) = number_at(s, between) else {
         return PlaceRead::Bad;
     };
     PlaceRead::Good(Place { m, port }, end)
@@ -97,7 +100,7 @@ pub fn counts_at(s: &[u8], at: usize, counts: &mut [u64]) -> Counts {
         if end == s.len() {
             return Counts::Good(n);
         }
-        let Digits::Good(value, next) = number_at(s, end) else {
+        let NumberRead::Good(value, next) = number_at(s, end) else {
             return Counts::Bad;
         };
         keep(counts, n, value);

@@ -30,16 +30,7 @@ pub fn put_word(out: &mut [u8], used: usize, w: &[u8]) -> usize {
 fn put_decimal(out: &mut [u8], used: usize, n: u64) -> usize {
     let mut digits = [0u8; 20];
     let size = io::decimal(n, &mut digits);
-    let mut o = used;
-    let mut i = 0;
-    while i < 20 {
-        if size <= i {
-            return o;
-        }
-        o = put_byte(out, o, digits[i]);
-        i += 1;
-    }
-    o
+    put_word(out, used, &digits[..size])
 }
 
 // The last three digits of a number.

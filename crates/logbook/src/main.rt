@@ -60,6 +60,12 @@ fn end(state: State) {
     }
 }
 
+// Reads what there is; gives how many bytes that is.
+fn read(block: &mut [u8]) -> usize {
+    let got = libc::read(STDIN_FILENO, block);
+    io::count(got, block)
+}
+
 // Reads and answers until the input ends. A proved loop has to end, and nothing says that an input does: so it counts its turns
 // down from a number that no run uses up.
 fn run() {
@@ -69,8 +75,7 @@ fn run() {
     let mut state = State::fresh();
     let mut turns = u64::MAX;
     while turns > 0 {
-        let got = libc::read(STDIN_FILENO, &mut block);
-        let count = io::count(got, &block);
+        let count = read(&mut block);
         if count == 0 {
             return end(state);
         }

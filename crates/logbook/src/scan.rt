@@ -2,25 +2,23 @@
 ghost use Prim.Native.Nat.{_≤_};
 ghost use lib.ListN.{length};
 
-// The first bytes of a text.
-pub fn front(text: &[u8], size: usize) -> &[u8] {
-    if size <= text.len() {
-        &text[..size]
-    } else {
-        text
-    }
-}
-
-// All of a text behind its first bytes.
-pub fn behind(text: &[u8], at: usize) -> &[u8] {
-    if at <= text.len() { &text[at..] } else { text }
-}
-
 // A place of a text, or the end of one that has no such place.
 pub fn within(text: &[u8], at: usize) -> usize
     ensures { λ r. ⌜ r ≤ length (now (text .entry)) ⌝ }
 {
     if at < text.len() { at } else { text.len() }
+}
+
+// The first bytes of a text, or all of one that has no more.
+pub fn front(text: &[u8], size: usize) -> &[u8] {
+    let end = within(text, size);
+    &text[..end]
+}
+
+// All of a text behind its first bytes.
+pub fn behind(text: &[u8], at: usize) -> &[u8] {
+    let from = within(text, at);
+    &text[from..]
 }
 
 // Where a byte first stands from a place on, or the text's end.

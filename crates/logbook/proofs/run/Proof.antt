@@ -27,12 +27,6 @@ slice-aggregate-read c = search needs
 read-requires : tie.Need-read-requires Inv-loop μ-loop
 read-requires c κs = search needs
 
-slice-aggregate-count : tie.Need-slice-aggregate-count Inv-loop μ-loop
-slice-aggregate-count c = search needs
-
-count-requires : tie.Need-count-requires Inv-loop μ-loop
-count-requires c κs = search needs
-
 end-requires : tie.Need-end-requires Inv-loop μ-loop
 end-requires c κs = search needs
 
@@ -76,8 +70,6 @@ run-spec =
     loop-holds
     slice-aggregate-read
     read-requires
-    slice-aggregate-count
-    count-requires
     end-requires
     returns
     slice-aggregate-fed

@@ -6,14 +6,14 @@ use borrow.Author.Needs.{needs}
 use Rattle.logbook.proofs.scan.front.Statement.{statement}
 use Rattle.logbook.proofs.scan.front.Tie as tie
 
+within-requires : tie.Need-within-requires
+within-requires c κs = search needs
+
 slice-aggregate-result : tie.Need-slice-aggregate-result
-slice-aggregate-result c = sym (length-take-le (c .before .before .args .size) (now (c .before .before .args .text)) (c .before .if1 .taken))
+slice-aggregate-result c = sym (length-take-le (c .before .within .result) (now (c .before .before .before .args .text)) (c .before .within .ensures))
 
 returns : tie.Need-returns
 returns c = search needs
 
-returns-2 : tie.Need-returns-2
-returns-2 c = search needs
-
 pub front-spec : {M : Type 1} → statement M
-front-spec = tie.close (tie.spec slice-aggregate-result returns returns-2)
+front-spec = tie.close (tie.spec within-requires slice-aggregate-result returns)

@@ -3,71 +3,47 @@ use logger::Heard;
 use logger::tally::Average;
 use logger::tally::Tally;
 use request::Place;
-ghost use Rattle.logbook.specs.Book.{SoundPorts, SoundBook};
+ghost use Rattle.logbook.specs.Book.{SoundBook};
 
-// Those of the three ports of a module.
-pub struct Ports {
-    pub first: Tally,
-    pub second: Tally,
-    pub third: Tally,
-}
-
-impl Ports {
-    fn fresh(m: u64) -> Self
-        ensures { λ r. ⌜ SoundPorts r ⌝ }
-    {
-        Ports {
-            first: Tally::fresh(Place { m, port: 1 }),
-            second: Tally::fresh(Place { m, port: 2 }),
-            third: Tally::fresh(Place { m, port: 3 }),
-        }
-    }
-
-    fn count(self, heard: Heard) -> Self
-        requires { ⌜ SoundPorts self ⌝ }
-        ensures { λ r. ⌜ SoundPorts r ⌝ }
-    {
-        let first = self.first;
-        let second = self.second;
-        let third = self.third;
-        Ports {
-            first: first.count(heard),
-            second: second.count(heard),
-            third: third.count(heard),
-        }
-    }
-
-    fn average(self, port: u64) -> Average {
-        let first = self.first;
-        let second = self.second;
-        let third = self.third;
-        if port == 1 {
-            return first.average();
-        }
-        if port == 2 {
-            return second.average();
-        }
-        if port == 3 {
-            return third.average();
-        }
-        Average::NoReading
-    }
-}
-
+// A tally knows its place: the connectors' tallies come first, then those of the relays.
 pub struct Book {
-    pub contacts: Ports,
-    pub relays: Ports,
+    pub tallies: [Tally; Book::PLACES],
+}
+
+// The place of a tally, counted from 0.
+fn place_of(slot: usize) -> Place {
+    if slot < Place::CONNECTORS {
+        Place::connector(slot)
+    } else {
+        Place {
+            m: Place::RELAY,
+            port: (slot - Place::CONNECTORS) as u64 + 1,
+        }
+    }
+}
+
+fn is_of(tally: Tally, place: Place) -> bool {
+    let counted = tally.place;
+    if counted.m != place.m {
+        return false;
+    }
+    counted.port == place.port
 }
 
 impl Book {
+    pub const PLACES: usize = Place::CONNECTORS + Place::RELAYS;
+
     // Before the first line.
     pub fn fresh() -> Self
         ensures { λ r. ⌜ SoundBook r ⌝ }
     {
-        Book {
-            contacts: Ports::fresh(Place::INFRARED),
-            relays: Ports::fresh(Place::RELAY),
+        let mut tallies = [Tally::fresh(Place::nowhere()); Book::PLACES];
+        let mut slot: usize = 0;
+        while slot < Book::PLACES {
+            tallies[slot] = Tally::fresh(place_of(slot));
+            slot += 1;
         }
+        Book { tallies }
     }
 
     // After one line more: each tally counts it.
@@ -75,23 +51,26 @@ impl Book {
         requires { ⌜ SoundBook self ⌝ }
         ensures { λ r. ⌜ SoundBook r ⌝ }
     {
-        let contacts = self.contacts;
-        let relays = self.relays;
-        Book {
-            contacts: contacts.count(heard),
-            relays: relays.count(heard),
+        let mut tallies = self.tallies;
+        let mut slot: usize = 0;
+        while slot < Book::PLACES {
+            let tally = tallies[slot];
+            tallies[slot] = tally.count(heard);
+            slot += 1;
         }
+        Book { tallies }
     }
 
     // A place that has no state has no reading.
     pub fn average(self, place: Place) -> Average {
-        let contacts = self.contacts;
-        let relays = self.relays;
-        if place.m == Place::INFRARED {
-            return contacts.average(place.port);
-        }
-        if place.m == Place::RELAY {
-            return relays.average(place.port);
+        let tallies = self.tallies;
+        let mut slot: usize = 0;
+        while slot < Book::PLACES {
+            let tally = tallies[slot];
+            if is_of(tally, place) {
+                return tally.average();
+            }
+            slot += 1;
         }
         Average::NoReading
     }

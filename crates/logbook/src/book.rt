@@ -5,12 +5,12 @@ use logger::tally::Tally;
 use request::Place;
 ghost use Rattle.logbook.specs.Book.{SoundBook};
 
-// A tally knows its place: the connectors' tallies come first, then those of the relays.
+// Those of the connectors come first, then those of the relays.
 pub struct Book {
     pub tallies: [Tally; Book::PLACES],
 }
 
-// The place of a tally, counted from 0.
+// The place of a slot, counted from 0.
 fn place_of(slot: usize) -> Place {
     if slot < Place::CONNECTORS {
         Place::connector(slot)
@@ -22,6 +22,7 @@ fn place_of(slot: usize) -> Place {
     }
 }
 
+// Whether a tally is the one of a place.
 fn is_of(tally: Tally, place: Place) -> bool {
     let counted = tally.place;
     if counted.m != place.m {

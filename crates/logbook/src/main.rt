@@ -13,7 +13,7 @@ mod scan;
 mod state;
 mod turn;
 
-// The most bytes of a line that is read.
+// The most bytes that are kept of a line; a longer one is of another form, or not a reply.
 const MOST_BYTES: usize = 65536;
 
 // Puts a byte behind the line so far; gives how many bytes there are then. One more than has room stands for any more.

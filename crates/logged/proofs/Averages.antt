@@ -4,7 +4,7 @@ use mathlib.Core.Path.{_≡_, refl, _∙_}
 use mathlib.Core.Bool.{true, _||_}
 use mathlib.Core.List.{List, [], _∷_}
 use native.Mathlib.Omega.{arith}
-use borrow.Author.Tests.{eqb-false, leb-true}
+use borrow.Author.Tests.{eqb-false, ne-eqb, leb-true}
 use lib.Dec.{eqb, leb}
 use lib.ListN.{length}
 use Rattle.laws.specs.Lists.{all}
@@ -16,10 +16,11 @@ use Rattle.lines.specs.Cut.{Line}
 use Rattle.logger.specs.declared.Heard.{Heard}
 use Rattle.logger.specs.declared.Heard.the-variants.{NotReply, State, Complete, Busy, Stop, Mode, Error, Version, Listed}
 use Rattle.logger.specs.Heard.{isConnector, isRelay, writable}
-use Rattle.logger.specs.Tally.{samePlace, tells, mostLines, tallied, howMany, isReading}
+use Rattle.logger.specs.declared.tally.Tally.{Tally}
+use Rattle.logger.specs.Tally.{samePlace, tells, mostLines, tallied, averageOf, howMany, isReading}
 use Rattle.logger.proofs.Tallies.{tally-counts}
 use Rattle.logged.specs.Filed.{statesOf, Filed}
-use Rattle.logged.specs.Average.{MadeOfReadings}
+use Rattle.logged.specs.Average.{averageIn, MadeOfReadings}
 use Rattle.logged.proofs.Texts.{says-writable}
 
 -- what a tally counts are the states that were heard
@@ -54,10 +55,24 @@ counted place (r ∷ rs) may =
     go Version e c = record { readings = c .readings; ones = c .ones }
     go (Listed d) e c = record { readings = c .readings; ones = c .ones }
 
+-- the average of a tally that counted some numbers is theirs
+average-is : (t : Tally) (values : List ℕ) → t .readings ≡ length values → t .ones ≡ howMany (λ v. eqb v 1) values → averageOf t ≡ averageIn values
+unfolding averageOf
+average-is t [] readings ones = rw readings
+average-is t (v ∷ vs) readings ones = rw (readings, ones, ne-eqb (length (v ∷ vs)) 0 (λ z. omega arith))
+
 -- a tally of all that a connection heard, as many lines as are counted
 pub average-of-readings : {h calls : List Call} {connection : ℕ} {texts : List (List ℕ)} {lines : List Line} (f : Filed h calls connection texts lines)
     (p : ℕ) → length (f .heard) ≤ mostLines → MadeOfReadings h calls connection p (tallied (placeOf 1 p) (f .heard))
 average-of-readings f p few =
     let t = tally-counts (placeOf 1 p) (f .heard) few in
     let c = counted (placeOf 1 p) (f .heard) (says-writable (f .said)) in
-    record { values = statesOf (placeOf 1 p) (f .heard); were-read = f .contacts p; readings = t .readings ∙ c .readings; ones = t .ones ∙ c .ones }
+    let readings = t .readings ∙ c .readings in
+    let ones = t .ones ∙ c .ones in
+    record {
+      values = statesOf (placeOf 1 p) (f .heard);
+      were-read = f .contacts p;
+      readings = readings;
+      ones = ones;
+      average = average-is (tallied (placeOf 1 p) (f .heard)) (statesOf (placeOf 1 p) (f .heard)) readings ones;
+    }

@@ -6,21 +6,23 @@ use mathlib.Core.Bool.{true, cond, _||_}
 use mathlib.Core.List.{List, [], _∷_, _++_, map, flatten, append-assoc}
 use mathlib.Core.Option.{Option}
 use mathlib.Core.Option as option
-use native.Mathlib.Omega.{arith}
 use borrow.Author.Tests.{eqb-true, eq-eqb, leb-true}
-use lib.Dec.{ltb, leb}
-use lib.ListN.{length, getD}
-use Rattle.laws.specs.Checks.{between}
+use lib.Dec.{leb}
+use lib.ListN.{length}
+use Rattle.laws.specs.Bytes.{bytes}
+use Rattle.laws.specs.Checks.{first, between}
 use Rattle.laws.specs.Lists.{all}
-use Rattle.laws.proofs.Choice.{by-test, cond-case, clash, not-both, and-left, and-right}
-use Rattle.words.specs.Decimal.{decimal, threeDigits}
+use Rattle.laws.proofs.Checks.{first-all}
+use Rattle.laws.proofs.Choice.{by-test, not-both, and-left, and-right}
+use Rattle.words.specs.Decimal.{decimal}
 use Rattle.words.specs.Places.{connectors}
 use Rattle.meaning.specs.Line as text
 use Rattle.meaning.specs.Log.{isOwner}
-use Rattle.meaning.specs.Table.{Completion, Answer, refused, taken, replied, Judged, error, answerOf, Call, line, overlong, reading, closing, waiting, Said, judge, logOf, said}
+use Rattle.meaning.specs.Table.{Completion, Answer, refused, taken, replied, answerOf, Call, line, overlong, reading, closing, waiting, Said, rowOf, judge, logOf, said}
 use Rattle.theorems.specs.Deeds.{Port}
 use Rattle.theorems.specs.Contacts.{AsksState, LastReading}
-use Rattle.theorems.proofs.Asked.{state-is-asked-for}
+use Rattle.theorems.proofs.Asked as asked
+use Rattle.theorems.proofs.Asked.{others, state-is-asked-for}
 use Rattle.theorems.proofs.Contacts.{state-is-last-reading, state-told-to-asker, reading-is-from-a-call}
 use Rattle.request.specs.declared.Place.{Place}
 use Rattle.request.specs.Place.{placeOf}
@@ -88,16 +90,11 @@ quiet e = rw e nothing
 -- a state is told by no overlong line
 overlong-silent : {A : Type 0} (h : List Call) (connection room p v : ℕ)
     → answerOf (judge (logOf h) (overlong connection room)) ≡ replied (text.line "state," 1 p (decimal v)) option.none → A
-overlong-silent {A} h connection room p v =
-    cond-case (λ (j : Judged). answerOf j ≡ replied (text.line "state," 1 p (decimal v)) option.none → A) (ltb 7 connection) _ _ (λ _ e. clash (cc)) λ _.
-    cond-case (λ (j : Judged). answerOf j ≡ replied (text.line "state," 1 p (decimal v)) option.none → A) (ltb room 128) _ _ (λ _ e. clash (cc))
-    λ _ e. differ e
-  where
-    differ : answerOf (error 15 0 0) ≡ replied (text.line "state," 1 p (decimal v)) option.none → A
-    differ e =
-        let f : text.line "ERR_" 0 0 (threeDigits 15) ≡ text.line "state," 1 p (decimal v) = cc in
-        let g : _≡_ {A = ℕ} 69 115 = ap (λ (l : List ℕ). getD l 0 0) f in
-        absurd (omega arith)
+unfolding decimal
+overlong-silent h connection room p v e =
+    let r = rowOf (logOf h) (overlong connection room) in
+    others (bytes "state,1") _ option.none (first (r .checks) (r .otherwise)) refl
+    (first-all (asked.other (bytes "state,1")) (r .checks) (r .otherwise) refl) e
 
 module _ (h : List Call) (connection : ℕ) where
   -- the line of the connection itself

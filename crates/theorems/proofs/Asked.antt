@@ -1,31 +1,86 @@
--- Only a getstate of a contact is answered with its 0 or 1.
-use Prim.Native.Nat.{ℕ, _≤_}
-use mathlib.Core.Path.{_≡_, refl, sym}
-use mathlib.Core.Bool.{Bool, true, false, not}
-use mathlib.Core.List.{List, [], _∷_}
+-- No reply but a state has the text of one, and only a getstate of a contact is answered with its 0 or 1.
+use Prim.Native.Nat.{ℕ, suc, _+_, _%_, _/_, _≤_, _<_}
+use mathlib.Core.Path.{_≡_, refl, sym, ap}
+use mathlib.Core.Bool.{Bool, true, false, not, _&&_}
+use mathlib.Core.List.{List, [], _∷_, _++_}
 use mathlib.Core.Option.{Option, none, Option·getD}
 use native.Mathlib.Omega.{arith}
-use borrow.Author.Tests.{ltb-false, eqb-false, not-false}
+use borrow.Author.Tests.{ltb-true, ltb-false, eqb-false, not-true, not-false}
 use lib.Dec.{ltb, eqb}
-use lib.ListN.{length}
+use lib.ListN.{length, take, drop, getD, length-append}
 use Rattle.laws.specs.Bytes.{bytes}
 use Rattle.laws.specs.Checks.{first, between}
-use Rattle.laws.specs.Lists.{all, cut, part}
-use Rattle.laws.proofs.Choice.{cond-case}
+use Rattle.laws.specs.Lists.{all, same, cut, part}
+use Rattle.laws.proofs.Choice.{clash, cond-case, by-test, not-both}
 use Rattle.laws.proofs.Checks.{through, past, first-all}
 use Rattle.laws.proofs.Lists.{same-is}
-use Rattle.words.specs.Decimal.{decimal}
-use Rattle.words.specs.Places.{connectors, portsOf}
+use Rattle.words.specs.Decimal.{decimal, decimalIn, threeDigits}
+use Rattle.words.specs.Places.{connectors, relays, portsOf}
+use Rattle.text.proofs.Decimals.{decimal-small}
 use Rattle.meaning.specs.Line as text
 use Rattle.meaning.specs.Line.{is}
 use Rattle.meaning.specs.Log.{Deed, contactOf}
 use Rattle.meaning.specs.Table as table
-use Rattle.meaning.specs.Table.{replied, Judged, Row, row, no, line, answerOf, judge, getdevices, getversion, set-IR, get-IR, setstate, getstate, sendir, stopir, request}
+use Rattle.meaning.specs.Table.{refused, taken, replied, Judged, refusal, error, does, Row, row, no, line, answerOf, judge, getdevices, getversion, set-IR, get-IR, setstate, getstate, sendir, stopir, request}
 use Rattle.theorems.specs.Deeds.{Port}
 use Rattle.theorems.specs.Contacts.{AsksState}
 use Rattle.theorems.proofs.Deeds.{within-is}
-use Rattle.theorems.proofs.Contacts.{state-text, other, others, otherRow, port-digit}
 
+-- ---- no other reply has the text of a state
+
+-- a decimal of one digit
+two-digits : (n : ℕ) → ltb n 10 ≡ false → 2 ≤ length (decimal n)
+unfolding decimal
+two-digits n e = rw (e, length-append) (omega (arith, some-digit 18 (n / 10)))
+  where
+    some-digit : (k m : ℕ) → 1 ≤ length (decimalIn (suc k) m)
+    some-digit k m = cond-case (λ (l : List ℕ). 1 ≤ length l) (ltb m 10) _ _ (λ t. omega arith) (λ t. rw length-append (omega arith))
+
+one-digit : (n v : ℕ) → v < 10 → decimal n ++ (13 ∷ []) ≡ (48 + v % 10) ∷ 13 ∷ [] → n ≡ v
+one-digit n v h e =
+    by-test (ltb n 10)
+    (λ t.
+    let f : 48 + n % 10 ≡ 48 + v % 10 = ap (λ (l : List ℕ). getD l 0 0) (rw (decimal-small n (ltb-true n 10 t)) at e) in
+    omega (arith, ltb-true n 10 t))
+    (λ t. absurd (omega (arith, length-append (decimal n) (13 ∷ []), ap length e, two-digits n t)))
+
+pub state-text : (m q u p v : ℕ) → m < 10 → q < 10 → p < 10 → v < 10
+    → text.line "state," m q (decimal u) ≡ text.line "state," m p (decimal v) → (q ≡ p) × (u ≡ v)
+state-text m q u p v hm hq hp hv e =
+    let f = rw (decimal-small m hm, decimal-small q hq, decimal-small p hp, decimal-small v hv) at e in
+    let a : 48 + q % 10 ≡ 48 + p % 10 = ap (λ (l : List ℕ). getD l 8 0) f in
+    (omega arith, one-digit u v hv (ap (drop 10) f))
+
+-- no reply that begins so
+abbrev pub other : List ℕ → Judged → Bool
+other w (refusal n) = true
+other w (error n m p) = not (same w (take (length w) (text.line "ERR_" m p (threeDigits n))))
+other w (does (refused n) deeds) = true
+other w (does (taken l) deeds) = true
+other w (does (replied words told) deeds) = not (same w (take (length w) words))
+
+pub others : {A : Type 0} (w words : List ℕ) (told : Option ℕ) (j : Judged) → same w (take (length w) words) ≡ true → other w j ≡ true
+    → answerOf j ≡ replied words told → A
+others w words told (refusal n) s o e = clash (cc)
+others w words told (error n m p) s o e =
+    let f : text.line "ERR_" m p (threeDigits n) ≡ words = cc in
+    not-both s (not-true _ (rw f at o))
+others w words told (does (refused n) deeds) s o e = clash (cc)
+others w words told (does (taken l) deeds) s o e = clash (cc)
+others w words told (does (replied text to) deeds) s o e =
+    let f : text ≡ words = cc in
+    not-both s (not-true _ (rw f at o))
+
+abbrev pub otherRow : List ℕ → Row → Bool
+otherRow w r = all (λ k. other w (k .gives)) (r .checks) && other w (r .otherwise)
+
+-- the port of an address that the table lets pass has one digit
+pub port-digit : (m : ℕ) (f : List ℕ) → not (text.within 1 (portsOf m) f) ≡ false → text.number f < 10
+port-digit m f e =
+    let few : portsOf m < 10 = cond-case (λ (n : ℕ). n < 10) (eqb m 1) connectors relays (λ _. omega arith) (λ _. omega arith) in
+    omega (arith, within-is 1 (portsOf m) f e .1)
+
+-- ---- what asks for a contact's state
 module _ (log : List Deed) (p v : ℕ) (told : Option ℕ) (port : Port connectors p) (small : v ≤ 1) (connection room : ℕ) (s : List ℕ) where
   record Asks (j : Judged) : Type 0 where
     asks : answerOf j ≡ replied (text.line "state," 1 p (decimal v)) told → AsksState 1 p connection room s

@@ -1,30 +1,30 @@
 -- A contact is answered with its last reading, and 028 where there is none; a relay with its last switching.
-use Prim.Native.Nat.{ℕ, suc, _+_, _%_, _/_, _≤_, _<_}
+use Prim.Native.Nat.{ℕ, _+_, _≤_, _<_}
 use mathlib.Core.Path.{_≡_, refl, sym, ap, _∙_}
-use mathlib.Core.Bool.{Bool, true, false, cond, not, _&&_}
+use mathlib.Core.Bool.{Bool, true, false, cond, not}
 use mathlib.Core.List.{List, [], _∷_, _++_, append-nil, append-assoc}
 use mathlib.Core.Option.{Option, none, some, Option·getD}
 use native.Mathlib.Omega.{arith}
-use borrow.Author.Tests.{le-ltb, ltb-true, eq-eqb, eqb-true, not-true, not-false}
-use lib.Dec.{ltb, eqb}
-use lib.ListN.{length, take, drop, getD, length-append}
+use borrow.Author.Tests.{le-ltb, eq-eqb, eqb-true, not-true}
+use lib.Dec.{eqb}
+use lib.ListN.{length}
 use Rattle.laws.specs.Bytes.{bytes}
 use Rattle.laws.specs.Checks.{first, isSome}
 use Rattle.laws.specs.Lists.{all, same, cut}
-use Rattle.laws.proofs.Choice.{clash, cond-case, by-test, not-both, and-left, and-right}
+use Rattle.laws.proofs.Choice.{clash, by-test, and-left, and-right}
 use Rattle.laws.proofs.Checks.{through, past, first-all}
 use Rattle.laws.proofs.Lists.{all-append}
-use Rattle.words.specs.Decimal.{decimal, decimalIn, threeDigits}
-use Rattle.words.specs.Places.{connectors, relays, portsOf}
-use Rattle.text.proofs.Decimals.{decimal-small}
+use Rattle.words.specs.Decimal.{decimal}
+use Rattle.words.specs.Places.{connectors, relays}
 use Rattle.meaning.specs.Line as text
 use Rattle.meaning.specs.Log.{Deed, passed, setting, switched, event, changed, felt, modeOf, contactOf, relayOf}
 use Rattle.meaning.specs.Table as table
-use Rattle.meaning.specs.Table.{refused, taken, replied, Judged, refusal, error, does, Row, row, no, reply, Call, line, overlong, reading, closing, waiting, answerOf, deedsOf, rowOf, judge, logged, logOf, field, fixed, set-IR, get-IR, setstate, getstate, sendir, stopir, request}
+use Rattle.meaning.specs.Table.{taken, replied, Judged, error, Row, row, no, reply, Call, line, overlong, reading, closing, waiting, answerOf, deedsOf, rowOf, judge, logged, logOf, field, fixed, set-IR, get-IR, setstate, getstate, sendir, stopir, request}
 use Rattle.theorems.specs.Deeds.{Port, inSensor, Did, nothing, changes, reads, switches, starts, renews, halts, leaves, passes}
 use Rattle.theorems.specs.Contacts.{AsksState, isSetting, LastFelt, LastReading, isSwitching, LastSwitched, never, last}
 use Rattle.theorems.proofs.Rows.{by-rows, by-line}
-use Rattle.theorems.proofs.Deeds.{within-is, did}
+use Rattle.theorems.proofs.Asked.{state-text, other, others, otherRow, port-digit, state-is-asked-for}
+use Rattle.theorems.proofs.Deeds.{did}
 
 -- ---- what is answered
 module _ (log : List Deed) (p connection room : ℕ) (s : List ℕ) where
@@ -63,131 +63,57 @@ module _ (log : List Deed) (p connection room : ℕ) (s : List ℕ) where
       → judge log (line connection room s) ≡ reply (text.line "state," 2 p (decimal (relayOf p log))) []
   last-setting-answered a = asked 2 a
 
--- ---- no other reply has the text of a state
-
--- a decimal of one digit
-two-digits : (n : ℕ) → ltb n 10 ≡ false → 2 ≤ length (decimal n)
-unfolding decimal
-two-digits n e = rw (e, length-append) (omega (arith, some-digit 18 (n / 10)))
-  where
-    some-digit : (k m : ℕ) → 1 ≤ length (decimalIn (suc k) m)
-    some-digit k m = cond-case (λ (l : List ℕ). 1 ≤ length l) (ltb m 10) _ _ (λ t. omega arith) (λ t. rw length-append (omega arith))
-
-one-digit : (n v : ℕ) → v < 10 → decimal n ++ (13 ∷ []) ≡ (48 + v % 10) ∷ 13 ∷ [] → n ≡ v
-one-digit n v h e =
-    by-test (ltb n 10)
-    (λ t.
-    let f : 48 + n % 10 ≡ 48 + v % 10 = ap (λ (l : List ℕ). getD l 0 0) (rw (decimal-small n (ltb-true n 10 t)) at e) in
-    omega (arith, ltb-true n 10 t))
-    (λ t. absurd (omega (arith, length-append (decimal n) (13 ∷ []), ap length e, two-digits n t)))
-
-pub state-text : (m q u p v : ℕ) → m < 10 → q < 10 → p < 10 → v < 10
-    → text.line "state," m q (decimal u) ≡ text.line "state," m p (decimal v) → (q ≡ p) × (u ≡ v)
-state-text m q u p v hm hq hp hv e =
-    let f = rw (decimal-small m hm, decimal-small q hq, decimal-small p hp, decimal-small v hv) at e in
-    let a : 48 + q % 10 ≡ 48 + p % 10 = ap (λ (l : List ℕ). getD l 8 0) f in
-    (omega arith, one-digit u v hv (ap (drop 10) f))
-
--- no reply that begins so
-abbrev pub other : List ℕ → Judged → Bool
-other w (refusal n) = true
-other w (error n m p) = not (same w (take (length w) (text.line "ERR_" m p (threeDigits n))))
-other w (does (refused n) deeds) = true
-other w (does (taken l) deeds) = true
-other w (does (replied words told) deeds) = not (same w (take (length w) words))
-
-pub others : {A : Type 0} (w words : List ℕ) (told : Option ℕ) (j : Judged) → same w (take (length w) words) ≡ true → other w j ≡ true
-    → answerOf j ≡ replied words told → A
-others w words told (refusal n) s o e = clash (cc)
-others w words told (error n m p) s o e =
-    let f : text.line "ERR_" m p (threeDigits n) ≡ words = cc in
-    not-both s (not-true _ (rw f at o))
-others w words told (does (refused n) deeds) s o e = clash (cc)
-others w words told (does (taken l) deeds) s o e = clash (cc)
-others w words told (does (replied text to) deeds) s o e =
-    let f : text ≡ words = cc in
-    not-both s (not-true _ (rw f at o))
-
-abbrev pub otherRow : List ℕ → Row → Bool
-otherRow w r = all (λ k. other w (k .gives)) (r .checks) && other w (r .otherwise)
-
--- the port of an address that the table lets pass has one digit
-pub port-digit : (m : ℕ) (f : List ℕ) → not (text.within 1 (portsOf m) f) ≡ false → text.number f < 10
-port-digit m f e =
-    let few : portsOf m < 10 = cond-case (λ (n : ℕ). n < 10) (eqb m 1) connectors relays (λ _. omega arith) (λ _. omega arith) in
-    omega (arith, within-is 1 (portsOf m) f e .1)
-
 -- ---- of a contact
 module _ (log : List Deed) (p v : ℕ) (told : Option ℕ) (port : Port connectors p) (small : v ≤ 1) where
-  record FromContact (j : Judged) : Type 0 where
-    tells : answerOf j ≡ replied (text.line "state," 1 p (decimal v)) told → (inSensor p log ≡ true) × (contactOf p log ≡ some v) × (told ≡ none)
+  record Known : Type 0 where
+    sensor : inSensor p log ≡ true
+    read : contactOf p log ≡ some v
+    alone : told ≡ none
 
-  not-contact : (j : Judged) → other (bytes "state,1") j ≡ true → FromContact j
+  -- a row that has no such reply
+  known-by-none : (r : Row) → otherRow (bytes "state,1") r ≡ true
+      → answerOf (first (r .checks) (r .otherwise)) ≡ replied (text.line "state," 1 p (decimal v)) told → Known
   unfolding decimal
-  not-contact j o = record { tells = λ e. others (bytes "state,1") _ told j refl o e }
+  known-by-none r o e =
+      others (bytes "state,1") _ told (first (r .checks) (r .otherwise)) refl
+      (first-all (other (bytes "state,1")) (r .checks) (r .otherwise) o) e
 
-  abbrev RowContact : Row → Type 0
-  RowContact r = FromContact (first (r .checks) (r .otherwise))
+  -- a getstate of p that is answered so
+  line-known : (connection room : ℕ) (s : List ℕ)
+      → answerOf (judge log (line connection room s)) ≡ replied (text.line "state," 1 p (decimal v)) told → Known
+  unfolding decimal
+  line-known connection room s e =
+      let a = state-is-asked-for log p v told port small connection room s e in
+      go (inSensor p log) refl (contactOf p log) refl (ap answerOf (sym (asked log p connection room s 1 a)) ∙ e)
+    where
+      go : (t : Bool) → inSensor p log ≡ t → (o : Option ℕ) → contactOf p log ≡ o
+          → answerOf (cond (not t) (error 18 1 p) (cond (not (isSome o)) (error 28 1 p) (reply (text.line "state," 1 p (decimal (Option·getD o 0))) [])))
+          ≡ replied (text.line "state," 1 p (decimal v)) told → Known
+      go false m o c f = others (bytes "state,1") _ told (error 18 1 p) refl refl f
+      go true m none c f = others (bytes "state,1") _ told (error 28 1 p) refl refl f
+      go true m (some u) c f =
+          let w : text.line "state," 1 p (decimal u) ≡ text.line "state," 1 p (decimal v) = cc in
+          let t = state-text 1 p u p v (omega arith) (omega (arith, port .most)) (omega (arith, port .most)) (omega arith) w in
+          let alone : told ≡ none = cc in
+          record { sensor = m; read = c ∙ ap some (t .1); alone = alone }
 
-  no-contact-row : (r : Row) → otherRow (bytes "state,1") r ≡ true → RowContact r
-  no-contact-row r o = not-contact (first (r .checks) (r .otherwise)) (first-all (other (bytes "state,1")) (r .checks) (r .otherwise) o)
-
-  contact-said : (q : ℕ) → q < 10 → inSensor q log ≡ true → (o : Option ℕ) → contactOf q log ≡ o → isSome o ≡ true
-      → replied (text.line "state," 1 q (decimal (Option·getD o 0))) none ≡ replied (text.line "state," 1 p (decimal v)) told
-      → (inSensor p log ≡ true) × (contactOf p log ≡ some v) × (told ≡ none)
-  contact-said q a mode none c i e = not-both i refl
-  contact-said q a mode (some u) c i e =
-      let w : text.line "state," 1 q (decimal u) ≡ text.line "state," 1 p (decimal v) = cc in
-      let t = state-text 1 q u p v (omega arith) a (omega (arith, port .most)) (omega arith) w in
-      let g : q ≡ p = t .0 in
-      let alone : told ≡ none = cc in
-      (rw g at mode, rw g at c ∙ ap some (t .1), alone)
-
-  module _ (connection : ℕ) (s : List ℕ) where
-    getstate-contact : RowContact (getstate log connection s)
-    unfolding getstate decimal
-    getstate-contact =
-        through FromContact (getstate log connection s .checks) (getstate log connection s .otherwise)
-        (past (not-contact _ refl) (λ _. past (not-contact _ refl) (λ _. past (not-contact _ refl) (λ port. past (not-contact _ refl) (λ _.
-        past (not-contact _ refl) (λ _. past (not-contact _ refl) (λ mode. past (not-contact _ refl) (λ read.
-        record {
-          tells =
-              contact-said (table.p log connection s) (port-digit (table.m log connection s) _ port) (not-false _ mode)
-              (contactOf (table.p log connection s) log) refl (not-false _ read);
-        }))))))))
-
-    request-contact : RowContact (request log connection s)
-    unfolding set-IR get-IR setstate sendir stopir decimal
-    request-contact =
-        by-rows log connection s RowContact
-        (λ words apart. no-contact-row (fixed log connection s words) (rw (apart .contact)))
-        (no-contact-row (set-IR log connection s) refl)
-        (no-contact-row (get-IR log connection s) refl)
-        (no-contact-row (setstate log connection s) refl)
-        getstate-contact
-        (no-contact-row (sendir log connection s) refl)
-        (no-contact-row (stopir log connection s) refl)
-        (no-contact-row (row [] (no 1)) refl)
-
-  call-contact : (call : Call) → FromContact (judge log call)
-  call-contact (line connection room s) =
-      by-line log connection s FromContact room (not-contact _ refl) (not-contact _ refl) (not-contact _ refl) (not-contact _ refl)
-      (λ _. request-contact connection s)
-  call-contact (overlong connection room) = no-contact-row (rowOf log (overlong connection room)) refl
-  call-contact (reading q value) = no-contact-row (rowOf log (reading q value)) refl
-  call-contact (closing connection) = no-contact-row (rowOf log (closing connection)) refl
-  call-contact (waiting n) = no-contact-row (rowOf log (waiting n)) refl
+  call-known : (call : Call) → answerOf (judge log call) ≡ replied (text.line "state," 1 p (decimal v)) told → Known
+  call-known (line connection room s) e = line-known connection room s e
+  call-known (overlong connection room) e = known-by-none (rowOf log (overlong connection room)) refl e
+  call-known (reading q value) e = known-by-none (rowOf log (reading q value)) refl e
+  call-known (closing connection) e = known-by-none (rowOf log (closing connection)) refl e
+  call-known (waiting n) e = known-by-none (rowOf log (waiting n)) refl e
 
   -- 0 or 1 is answered for a contact only in SENSOR and only with what its last reading was
   pub state-is-last-reading : (call : Call) → answerOf (judge log call) ≡ replied (text.line "state," 1 p (decimal v)) told
       → (inSensor p log ≡ true) × (contactOf p log ≡ some v)
   state-is-last-reading call e =
-      let t = call-contact call .tells e in
-      (t .0, t .1)
+      let k = call-known call e in
+      (k .sensor, k .read)
 
   -- and nobody but the asker is told
   pub state-told-to-asker : (call : Call) → answerOf (judge log call) ≡ replied (text.line "state," 1 p (decimal v)) told → told ≡ none
-  state-told-to-asker call e = call-contact call .tells e .2
+  state-told-to-asker call e = call-known call e .alone
 
 -- ---- the same of a relay
 module _ (log : List Deed) (p v : ℕ) (told : Option ℕ) (port : Port relays p) (small : v ≤ 1) where

@@ -7,8 +7,8 @@ pub mod Ports
 pub mod Completing
 pub mod Longest
 pub mod Silent
-pub mod Contacts
 pub mod Asked
+pub mod Contacts
 pub mod Later
 pub mod Order
 pub mod Words

@@ -57,7 +57,7 @@ fresh-sound =
     }
 
 -- what holds of the element that is stored, and of the one at a place, holds of the one at that place then
-stored : {A : Type 0} (P : A → Type 0) (l : List A) (i j : ℕ) (v d : A) → P v → P (getD l j d) → P (getD (set l i v) j d)
+pub stored : {A : Type 0} (P : A → Type 0) (l : List A) (i j : ℕ) (v d : A) → P v → P (getD l j d) → P (getD (set l i v) j d)
 stored P [] i j v d new old = old
 stored P (x ∷ l) zero zero v d new old = new
 stored P (x ∷ l) zero (suc j) v d new old = old

@@ -32,7 +32,7 @@ pub part-back : (store : List ℕ) (slot : ℕ) → over store (slot * partSize)
 part-back store slot = over-same store (slot * partSize) partSize
 
 -- a part that was lent, in its place again
-laid-back : (store : List ℕ) (from : ℕ) (part : List ℕ) (n : ℕ) → length part ≡ n
+pub laid-back : (store : List ℕ) (from : ℕ) (part : List ℕ) (n : ℕ) → length part ≡ n
     → take from store ++ (part ++ drop n (drop from store)) ≡ over store from part
 unfolding over
 laid-back store from part n e =

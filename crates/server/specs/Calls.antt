@@ -1,13 +1,13 @@
 -- The events beside pieces, and when the next completion is due.
 use Prim.Native.Nat.{ℕ}
 use mathlib.Core.Bool.{cond}
-use mathlib.Core.List.{List, [], _∷_}
-use lib.Dec.{ltb}
-use lib.ListN.{set, take}
+use lib.Dec.{ltb, eqb}
+use lib.ListN.{set, getD}
 use Rattle.lines.specs.Take.{freshAssembler}
-use Rattle.connector.specs.declared.Completion.{Completion}
+use Rattle.connector.specs.declared.Answer.the-variants as answer
 use Rattle.hub.specs.declared.completions.Completions.{Completions}
 use Rattle.hub.specs.Record.{applied}
+use Rattle.hub.specs.Completions.{noCompletion}
 use Rattle.hub.specs.Calls as hub
 use Rattle.hub.specs.Wait as wait
 use Rattle.server.specs.declared.Server.{Server}
@@ -21,10 +21,9 @@ use Rattle.server.specs.Record.{serverOf}
 unfoldable pub closedCall : Server → ℕ → Served
 closedCall s connection =
     let moved = hub.closedCall (s .hub) connection in
-    record {
-      server = serverOf (moved .hub) (cond (ltb 7 connection) (s .assemblers) (set (s .assemblers) connection freshAssembler));
-      answer = moved .answer;
-    }
+    cond (ltb 7 connection)
+    (record { server = s; answer = answer.Refused 102 })
+    (record { server = serverOf (moved .hub) (set (s .assemblers) connection freshAssembler); answer = moved .answer })
 
 abbrev pub readingCall : Server → ℕ → ℕ → Served
 readingCall s port value =
@@ -36,13 +35,10 @@ waitCall s n =
     let waited = wait.waitCall (s .hub) n in
     record { server = serverOf (waited .hub) (s .assemblers); answer = waited .answer; completions = waited .completions }
 
--- the first of some completions
-abbrev pub firstDue : List Completion → Due
-firstDue [] = Nothing
-firstDue (c ∷ l) = In (c .moment)
+-- the moment of the first of some completions
+abbrev pub firstDue : Completions → Due
+firstDue done = cond (eqb (done .count) 0) Nothing (In (getD (done .items) 0 noCompletion .moment))
 
--- the moment of the first completion of the longest wait
+-- as the longest wait would show it
 abbrev pub dueOf : Server → Due
-dueOf s =
-    let done = wait.waitCall (s .hub) 1000000000 .completions in
-    firstDue (take (done .count) (done .items))
+dueOf s = firstDue (wait.waitCall (s .hub) 1000000000 .completions)

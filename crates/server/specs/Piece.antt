@@ -13,10 +13,11 @@ use Rattle.lines.specs.declared.Found.the-variants as found
 use Rattle.lines.specs.declared.Taken.{Taken}
 use Rattle.lines.specs.Take.{Step, takeStep}
 use Rattle.connector.specs.declared.Answer.the-variants as answer
+use Rattle.hub.specs.declared.Answered.{Answered}
 use Rattle.hub.specs.declared.Hub.{Hub}
 use Rattle.hub.specs.declared.HubChange.the-variants as change
 use Rattle.hub.specs.Record.{applied}
-use Rattle.hub.specs.Line.{Outcome, leaving, deciding, refusal, lineStep, overlongStep, bytesOf}
+use Rattle.hub.specs.Line.{Outcome, leaving, deciding, refusal, lineStep, overlongStep, bytesOf, Answers}
 use Rattle.server.specs.declared.Server.{Server}
 use Rattle.server.specs.declared.PieceServed.{PieceServed}
 use Rattle.server.specs.Record.{allBuffers, bufferSize, serverOf, assemblerAt, bufferAt}
@@ -83,6 +84,11 @@ pub record Serves (x : PieceStep) (before : List ℕ) (r : PieceServed) (store b
 pub record Joins (step : Step) (before : List ℕ) (from : ℕ) (r : Taken) (after : List ℕ) : Type 0 where
   pub result : r ≡ step .taken
   pub laid : after ≡ over before from (step .buffer)
+
+-- the hub's answer to what was found
+pub record FoundAnswers (hub : Hub) (store : List ℕ) (connection : ℕ) (buffer : List ℕ) (f : Found) (before : List ℕ) (r : Answered)
+    (kept reply : List ℕ) : Type 0 where
+  pub answers : Answers (foundStep hub store connection (length before) buffer f) before r kept reply
 
 -- a line that was found stands within the buffers
 abbrev pub Fits : Found → ℕ → ℕ → Type 0

@@ -95,13 +95,17 @@ impl Server {
     pub fn closed(self, connection: u64) -> Served
         ensures { λ r. ⌜ r ≡ closedCall self connection ⌝ }
     {
-        let mut assemblers = self.assemblers;
-        if connection <= Hub::MOST_CONNECTION {
-            assemblers[connection as usize] = Assembler::fresh();
+        if Hub::MOST_CONNECTION < connection {
+            return Served {
+                server: self,
+                answer: Answer::Refused(102),
+            };
         }
         let moved = self.hub.closed(connection);
         let hub = moved.hub;
         let answer = moved.answer;
+        let mut assemblers = self.assemblers;
+        assemblers[connection as usize] = Assembler::fresh();
         Served {
             server: Server { hub, assemblers },
             answer,

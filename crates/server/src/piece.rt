@@ -13,9 +13,8 @@ ghost use Prim.Native.Nat.{_+_, _*_, _≤_, _<_};
 ghost use lib.ListN.{length, take, drop};
 ghost use Rattle.lines.specs.Take.{SoundAssembler, takeStep};
 ghost use Rattle.hub.specs.Record.{SoundHub};
-ghost use Rattle.hub.specs.Line.{Answers};
 ghost use Rattle.server.specs.Record.{SoundServer};
-ghost use Rattle.server.specs.Piece.{refusedPiece, servedStep, Serves, Joins, foundStep, Fits};
+ghost use Rattle.server.specs.Piece.{refusedPiece, servedStep, Serves, Joins, FoundAnswers, Fits};
 
 // Nothing is used, and nothing changes.
 pub fn refused(server: Server, number: u64) -> PieceServed
@@ -51,8 +50,8 @@ fn answered(
     reply: &mut [u8],
 ) -> Answered
     requires { ⌜ SoundHub hub × Fits found (length (now buffers)) from × (connection ≤ 7) × (128 ≤ length (now reply)) ⌝ }
-    ensures { λ r. ⌜ Answers (foundStep hub (now (store .entry)) connection (length (now (reply .entry))) (drop from (now (buffers .entry))) found)
-        (now (reply .entry)) r (now (store .exit)) (now (reply .exit)) ⌝ }
+    ensures { λ r. ⌜ FoundAnswers hub (now (store .entry)) connection (drop from (now (buffers .entry))) found (now (reply .entry)) r
+        (now (store .exit)) (now (reply .exit)) ⌝ }
 {
     match found {
         Found::Nothing => Answered {

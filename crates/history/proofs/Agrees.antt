@@ -13,6 +13,7 @@ use Rattle.laws.specs.Lists.{upFrom, gathered}
 use Rattle.laws.proofs.Choice.{not-both, cond-case}
 use Rattle.laws.proofs.Put.{over-length}
 use Rattle.laws.proofs.Slots.{made-in, made-alike, made-set}
+use Rattle.laws.proofs.Parts.{part-here, part-elsewhere}
 use Rattle.words.specs.Places.{connectors, relays}
 use Rattle.meaning.specs.Log.{until}
 use Rattle.request.specs.declared.mode.Mode.the-variants.{Ir}
@@ -30,7 +31,6 @@ use Rattle.hub.specs.Line.{Outcome, deciding, leaving, changeIn, placed, connec
 use Rattle.history.proofs.Known.{Known, changedAt}
 use Rattle.history.proofs.Shown.{shown, HeldIn}
 use Rattle.history.proofs.Stepping.{Steps, StepMeans}
-use Rattle.history.proofs.Parts.{part-here, part-elsewhere}
 
 -- ---- a list with an element for each slot
 
@@ -186,7 +186,7 @@ module _ (t : ℕ) (K : ℕ → Known) (R : ℕ → ℕ) where
             stored = record {
               size = over-length store (slot * partSize) (made .kept) (omega (arith, m .long)) ∙ st .size;
               held = changed-held (over store (slot * partSize) (made .kept))
-                  (rw (part-here store slot (made .kept) (m .long) fits) (m .held))
-                  (λ other h d. rw (part-elsewhere store slot (made .kept) (m .long) fits other d) (st .held other h));
+                  (rw (part-here partSize store slot (made .kept) (m .long) fits) (m .held))
+                  (λ other h d. rw (part-elsewhere partSize store slot (made .kept) (m .long) fits other d) (st .held other h));
             };
           }

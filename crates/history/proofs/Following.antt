@@ -153,7 +153,7 @@ module _ (h : List Call) (store : List ℕ) (st : Keeps store (logOf h)) where
   follows (waiting n) = wait-follows n
 
   -- the carriers at any time
-  carriers-follow : carriersOf (hubAt log) store ≡ carriers log
+  pub carriers-follow : carriersOf (hubAt log) store ≡ carriers log
   carriers-follow =
       carriers-shown (now log) (view log) (λ p. relayOf p log) (logged-fit h) store st ∙ sym (carriers-are log)
 

@@ -2,7 +2,6 @@ pub mod Known
 pub mod Shown
 pub mod Fits
 pub mod Stepping
-pub mod Parts
 pub mod Agrees
 pub mod Asking
 pub mod Joining

@@ -1,12 +1,13 @@
 -- Soundness of the hub: a fresh one has it, and every call keeps it. What a call changes is of a connector or a relay that there is.
-use Prim.Native.Nat.{ℕ, zero, suc, _-_, _≤_, _<_}
+use Prim.Native.Nat.{ℕ, suc, _-_, _≤_, _<_}
 use mathlib.Core.Path.{sym, subst}
-use mathlib.Core.List.{List, [], _∷_, map}
+use mathlib.Core.List.{List, map}
 use native.Mathlib.Omega.{arith}
 use borrow.Author.Tests.{ltb-false}
 use lib.Dec.{ltb}
-use lib.ListN.{getD, set, getD-replicate}
+use lib.ListN.{getD-replicate}
 use Rattle.laws.proofs.Choice.{cond-case}
+use Rattle.laws.proofs.Parts.{stored-at}
 use Rattle.laws.proofs.Slots.{made-in}
 use Rattle.words.specs.Places.{connectors, relays}
 use Rattle.request.specs.declared.mode.Mode.the-variants.{Ir}
@@ -56,26 +57,18 @@ fresh-sound =
       relays = λ slot less. omega (arith, getD-replicate {A = ℕ} relays slot 0 0 less);
     }
 
--- what holds of the element that is stored, and of the one at a place, holds of the one at that place then
-pub stored : {A : Type 0} (P : A → Type 0) (l : List A) (i j : ℕ) (v d : A) → P v → P (getD l j d) → P (getD (set l i v) j d)
-stored P [] i j v d new old = old
-stored P (x ∷ l) zero zero v d new old = new
-stored P (x ∷ l) zero (suc j) v d new old = old
-stored P (x ∷ l) (suc i) zero v d new old = old
-stored P (x ∷ l) (suc i) (suc j) v d new old = stored P l i j v d new old
-
 -- a sound change of a sound hub
 pub applied-sound : {h : Hub} (x : HubChange) → SoundHub h → SoundHubChange x → SoundHub (applied h x)
 applied-sound change.Nothing s k = s
 applied-sound {h} (change.Connector slot c) s k =
     record {
-      each = λ at less. stored SoundConnector (h .connectors) slot at c (freshConnector Ir) k (s .each at less);
+      each = λ at less. stored-at SoundConnector (h .connectors) slot at c (freshConnector Ir) k (s .each at less);
       relays = s .relays;
     }
 applied-sound {h} (change.Relay slot state) s k =
     record {
       each = s .each;
-      relays = λ at less. stored (λ (v : ℕ). v ≤ 1) (h .relays) slot at state 0 k (s .relays at less);
+      relays = λ at less. stored-at (λ (v : ℕ). v ≤ 1) (h .relays) slot at state 0 k (s .relays at less);
     }
 
 -- ---- what a connector's change is in the hub

@@ -5,6 +5,7 @@ use mathlib.Core.List.{List}
 use lib.Dec.{ltb}
 use Rattle.laws.specs.Put.{over}
 use Rattle.laws.proofs.Choice.{cond-case}
+use Rattle.laws.proofs.Parts.{part-back}
 use Rattle.words.specs.Places.{connectors}
 use Rattle.request.specs.declared.Place.{Place}
 use Rattle.request.specs.declared.Turn.{Turn}
@@ -23,7 +24,6 @@ use Rattle.hub.specs.Line.{changeIn, placed, relayStep, askedStep, lineS
 use Rattle.hub.specs.Calls.{moving, readingCall, closedCall}
 use Rattle.hub.specs.Wait.{waitCall}
 use Rattle.hub.specs.Refusals.{ChangesNothing, KeepsBoth, KeepsHub}
-use Rattle.hub.proofs.Parts.{part-back}
 
 -- a connector that stays is a hub that stays
 placed-refused : (slot : ℕ) (s : Stepped) → KeepsConnector s → ChangesNothing (placed slot s)
@@ -73,7 +73,7 @@ module _ (h : Hub) (store : List ℕ) (connection : ℕ) (text : List ℕ) where
   refused-asked (request.Connector place ask) r =
       let slot = place .port - 1 in
       let kept = step-refused (connectorAt h slot) (keptAt store slot) connection text place ask r in
-      (ap (changeIn slot) (kept .0), ap (over store (slot * partSize)) (kept .1) ∙ part-back store slot)
+      (ap (changeIn slot) (kept .0), ap (over store (slot * partSize)) (kept .1) ∙ part-back partSize store slot)
   refused-asked (request.Relay place asked) r =
       let slot = place .port - 1 in
       (relay-refused (relayAt h slot) slot place asked r, refl)

@@ -4,6 +4,7 @@ pub mod Lists
 pub mod Joining
 pub mod Cutting
 pub mod Put
+pub mod Parts
 pub mod Storing
 pub mod Numbers
 pub mod Slots

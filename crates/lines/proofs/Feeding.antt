@@ -26,7 +26,7 @@ pub record Holds (a : Assembler) (buffer begun : List ℕ) : Type 0 where
   pub room : length buffer ≡ 4096
   pub bytes : length begun ≤ 4096 → take (length begun) buffer ≡ begun
 
-holds-fresh : (buffer : List ℕ) → length buffer ≡ 4096 → Holds freshAssembler buffer []
+pub holds-fresh : (buffer : List ℕ) → length buffer ≡ 4096 → Holds freshAssembler buffer []
 holds-fresh buffer h = record { count = sym (counted-few 0 (omega arith)); room = h; bytes = λ k. refl }
 
 holds-more : {a : Assembler} {buffer begun : List ℕ} → Holds a buffer begun → (body : List ℕ)
@@ -67,7 +67,7 @@ fed-then {begun} {s} {t} next x y =
     }
 
 -- a call feeds what it uses of its piece
-call-fed : {a : Assembler} {buffer begun : List ℕ} → Holds a buffer begun → (s : List ℕ)
+pub call-fed : {a : Assembler} {buffer begun : List ℕ} → Holds a buffer begun → (s : List ℕ)
     → FedAs begun (take (takeStep a buffer s .taken .used) s) (called (takeStep a buffer s))
 call-fed {a} {buffer} {begun} h s =
     take-case a buffer s (λ (x : Step). FedAs begun (take (x .taken .used) s) (called x))

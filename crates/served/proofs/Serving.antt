@@ -1,33 +1,52 @@
--- However a stream is cut into pieces, what a server says to them is what the hub says to the lines of the stream, one by one.
-use Prim.Native.Nat.{ℕ, zero, suc}
-use mathlib.Core.Path.{_≡_, refl, sym, ap, _∙_}
-use mathlib.Core.List.{List, [], _∷_, _++_, map, map-append, flatten}
-use lib.ListN.{length, drop}
-use Rattle.meaning.specs.Table.{Call, closing, said}
+-- Over any list of events on eight connections, pieces cut anywhere and mixed in any order with readings, closings and waits: what is told,
+-- reply by reply and to whom, is what the history of the lines means, each line taking place at its CR.
+use Prim.Native.Nat.{ℕ, zero, suc, _+_, _*_, _≤_, _<_}
+use mathlib.Core.Path.{_≡_, refl, sym, ap, ap₂, _∙_, subst}
+use mathlib.Core.Bool.{true}
+use mathlib.Core.List.{List, [], _∷_, _++_, map, map-append, append-assoc, append-nil, flatten}
+use mathlib.Core.Option.{Option, none, some}
+use native.Mathlib.Omega.{arith}
+use borrow.Author.Tests.{eqb-true, eqb-false, eq-eqb, ne-eqb, ltb-true, ltb-false, le-ltb}
+use lib.Dec.{eqb, ltb, leb}
+use lib.ListN.{length, take, drop, set, length-set, length-drop, length-replicate, getD-replicate, take-append-drop}
+use lib.Seq.{getD-set-same, getD-set-other, length-take-le}
+use Rattle.laws.specs.Put.{over}
+use Rattle.laws.proofs.Choice.{by-test, cond-case}
+use Rattle.laws.proofs.Parts.{part-here, part-elsewhere, part-back}
+use Rattle.laws.proofs.Put.{over-length}
+use Rattle.meaning.specs.Table.{Completion, Answer, refused, taken, replied, Call, logOf, carriers, Said, said}
+use Rattle.meaning.specs.Table as call
 use Rattle.lines.specs.declared.Assembler.{Assembler}
 use Rattle.lines.specs.declared.Found.{Found}
 use Rattle.lines.specs.declared.Found.the-variants as found
-use Rattle.lines.specs.Cut.{Line}
-use Rattle.lines.specs.Take.{freshAssembler, takeStep}
-use Rattle.lines.specs.Feed.{Fed, lineIn, fedPiece, feed}
-use Rattle.lines.specs.Feed as feeding
-use Rattle.lines.proofs.Feeding.{feed-is-lines, fresh-drops}
+use Rattle.lines.specs.Cut.{Line, lineOf, divided}
+use Rattle.lines.specs.Take.{freshAssembler, counted, foundOf, untilCr, Step, takeStep}
+use Rattle.lines.specs.Feed.{lineIn, feed}
+use Rattle.lines.proofs.Cutting.{divided-append}
+use Rattle.lines.proofs.Feeding.{Holds, holds-fresh, call-fed}
+use Rattle.lines.proofs.Keeps.{take-case}
 use Rattle.hub.specs.declared.Hub.{Hub}
-use Rattle.hub.specs.Record.{freshHub}
+use Rattle.hub.specs.Record.{freshHub, applied}
+use Rattle.hub.specs.Line.{lineStep}
+use Rattle.hub.specs.Calls.{carriersOf}
+use Rattle.hub.specs.Calls as hub
+use Rattle.history.specs.Heard.{answerOut}
 use Rattle.history.specs.Run.{called, run}
-use Rattle.history.specs.Waiting.{reached}
-use Rattle.history.proofs.Following.{from-fresh}
-use Rattle.served.specs.Served.{Server, server, Served, answering, thenServed, asks, servedPiece, served, closedBy, closedThen}
-use Rattle.served.specs.Served.{callOf, callsOf, leaves, ServedAs, SameServed}
+use Rattle.history.specs.Waiting.{Reached, reached}
+use Rattle.history.proofs.Following.{hubAt, Keeps, follows, carriers-follow, from-fresh}
+use Rattle.reads.proofs.Cursor.{modeIn}
+use Rattle.logged.specs.Written.{asker, forOne, noticesTo, writtenBy, writtenTo}
+use Rattle.logged.specs.Filed.{Filed}
+use Rattle.logged.proofs.Filing.{from-contact-to-file}
+use Rattle.server.specs.Record.{connections, bufferSize, allBuffers, serverOf, assemblerAt, bufferAt}
+use Rattle.server.specs.Piece.{PieceStep, foundStep, servedStep, pieceStep}
+use Rattle.server.specs.Calls.{closedCall}
+use Rattle.server.proofs.Keeps.{served-some}
+use Rattle.served.specs.Events.{Event, piece, closed, reading, waiting, nothingBegun, begunWith, begunBy, callOf, callsBy, callsFrom, begunFrom, historyOf}
+use Rattle.served.specs.Told.{Told, answerTold, told, textsFor, replyTo, completionTold, logAfter}
+use Rattle.served.specs.Serving.{State, stateOf, freshState, Gave, gave, thenGave, pieceGave, pieceServed, eventServed, served}
 
 -- ---- calls one after the other
-run-append : (hub : Hub) (store : List ℕ) (k l : List Call)
-    → run hub store (k ++ l) ≡ run hub store k ++ run (reached hub store k .hub) (reached hub store k .store) l
-run-append hub store [] l = refl
-run-append hub store (call ∷ k) l =
-    let c = called hub store call in
-    rw (run-append (c .hub) (c .store) k l)
-
 reached-append : (hub : Hub) (store : List ℕ) (k l : List Call)
     → reached hub store (k ++ l) ≡ reached (reached hub store k .hub) (reached hub store k .store) l
 reached-append hub store [] l = refl
@@ -35,118 +54,348 @@ reached-append hub store (call ∷ k) l =
     let c = called hub store call in
     reached-append (c .hub) (c .store) k l
 
-answering-append : (hub : Hub) (store : List ℕ) (k l : List Call) (a b : Assembler) (buffer after : List ℕ)
-    → answering hub store (k ++ l) b after
-    ≡ thenServed (answering hub store k a buffer) (λ (s : Server). answering (s .hub) (s .store) l b after)
-answering-append hub store k l a b buffer after =
-    λ i. record {
-      said = run-append hub store k l i;
-      server = server (reached-append hub store k l i .hub) (reached-append hub store k l i .store) b after;
+told-append : (hub : Hub) (store : List ℕ) (k l : List Call)
+    → told (k ++ l) (run hub store (k ++ l))
+    ≡ told k (run hub store k) ++ told l (run (reached hub store k .hub) (reached hub store k .store) l)
+told-append hub store [] l = refl
+told-append hub store (call ∷ k) l =
+    let c = called hub store call in
+    rw (told-append (c .hub) (c .store) k l, append-assoc)
+
+-- ---- what a server stands for: the bytes of each connection's unfinished line
+pub record Stands (begun : ℕ → List ℕ) (s : State) : Type 0 where
+  pub many : length (s .server .assemblers) ≡ connections
+  pub room : length (s .buffers) ≡ allBuffers
+  pub each : (c : ℕ) → c < connections → Holds (assemblerAt (s .server) c) (bufferAt (s .buffers) c) (begun c)
+
+-- a connection's buffer
+buffer-room : {begun : ℕ → List ℕ} {s : State} → Stands begun s → (c : ℕ) → c < connections → length (bufferAt (s .buffers) c) ≡ bufferSize
+buffer-room k c h = k .each c h .room
+
+stands-fresh : (store buffers : List ℕ) → length buffers ≡ allBuffers → Stands nothingBegun (freshState store buffers)
+stands-fresh store buffers h =
+    record {
+      many = length-replicate connections freshAssembler;
+      room = h;
+      each = λ c less.
+          let at : bufferSize ≤ length (drop (c * bufferSize) buffers) = rw length-drop (omega arith) in
+          rw (getD-replicate connections c freshAssembler freshAssembler less)
+          (holds-fresh (bufferAt buffers c) (length-take-le bufferSize (drop (c * bufferSize) buffers) at));
     }
 
-module _ (connection room : ℕ) where
-  asks-line : (buffer : List ℕ) (f : Found) → asks connection room buffer f ≡ map (callOf connection room) (lineIn buffer f)
-  asks-line buffer found.Nothing = refl
-  asks-line buffer (found.Line size) = refl
-  asks-line buffer found.Overlong = refl
-  asks-line buffer (found.Refused number) = refl
+-- the same bytes
+stands-alike : {begun other : ℕ → List ℕ} {s : State} → ((c : ℕ) → c < connections → begun c ≡ other c) → Stands begun s → Stands other s
+stands-alike {s = s} same k =
+    record {
+      many = k .many;
+      room = k .room;
+      each = λ c less. subst (λ (b : List ℕ). Holds (assemblerAt (s .server) c) (bufferAt (s .buffers) c) b) (same c less) (k .each c less);
+    }
 
-  -- the lines of a feed, answered when it is over
-  abbrev pub answered : Hub → List ℕ → Fed → Served
-  answered hub store f = answering hub store (map (callOf connection room) (f .lines)) (f .assembler) (f .buffer)
+-- another assembler and buffer for one connection
+stands-set : {begun : ℕ → List ℕ} {s : State} (c : ℕ) → c < connections → Stands begun s → (hub : Hub) (store : List ℕ) (a : Assembler)
+    (part bytes : List ℕ) → Holds a part bytes
+    → Stands (begunWith c bytes begun)
+    (stateOf (serverOf hub (set (s .server .assemblers) c a)) store (over (s .buffers) (c * bufferSize) part))
+stands-set {begun} {s} c less k hub store a part bytes new =
+    let fits : c * bufferSize + bufferSize ≤ length (s .buffers) = omega (arith, k .room) in
+    let at : c < length (s .server .assemblers) = omega (arith, k .many) in
+    record {
+      many = length-set (s .server .assemblers) c a ∙ k .many;
+      room = over-length (s .buffers) (c * bufferSize) part (omega (arith, new .room)) ∙ k .room;
+      each = λ d below.
+          by-test (eqb d c)
+          (λ e.
+          rw (e, eqb-true d c e, getD-set-same (s .server .assemblers) c a freshAssembler at, part-here bufferSize (s .buffers) c part (new .room) fits)
+          new)
+          (λ e.
+          let other = eqb-false d c e in
+          rw (e, getD-set-other (s .server .assemblers) c d a freshAssembler other, part-elsewhere bufferSize (s .buffers) c part (new .room) fits d other)
+          (k .each d below));
+    }
 
-  answered-then : (hub : Hub) (store : List ℕ) (f : Fed) (feeds : Assembler → List ℕ → Fed) (serves : Server → Served)
-      → ((x : Hub) (y : List ℕ) (a : Assembler) (buffer : List ℕ) → serves (server x y a buffer) ≡ answered x y (feeds a buffer))
-      → thenServed (answered hub store f) serves ≡ answered hub store (feeding.onward f feeds)
-  answered-then hub store f feeds serves same =
-      let calls = map (callOf connection room) (f .lines) in
-      let r = reached hub store calls in
-      let g = feeds (f .assembler) (f .buffer) in
-      let more = map (callOf connection room) (g .lines) in
-      let next = same (r .hub) (r .store) (f .assembler) (f .buffer) in
-      let both = map-append (callOf connection room) (f .lines) (g .lines) in
-      ap (λ (x : Served). thenServed (answered hub store f) (λ (s : Server). x)) next
-      ∙ sym (answering-append hub store calls more (f .assembler) (g .assembler) (f .buffer) (g .buffer))
-      ∙ sym (ap (λ (l : List Call). answering hub store l (g .assembler) (g .buffer)) both)
+-- ---- what a server gives that tells what some calls are told, and stands then where they leave it
+abbrev hubOf : State → Reached
+hubOf s = record { hub = s .server .hub; store = s .store }
 
-  piece-answered : (n : ℕ) (s : List ℕ) (hub : Hub) (store : List ℕ) (a : Assembler) (buffer : List ℕ)
-      → servedPiece connection room n s (server hub store a buffer) ≡ answered hub store (fedPiece n s a buffer)
-  piece-answered zero s hub store a buffer = refl
-  piece-answered (suc n) [] hub store a buffer = refl
-  piece-answered (suc n) (b ∷ s) hub store a buffer =
-      let step = takeStep a buffer (b ∷ s) in
-      let left = drop (step .taken .used) (b ∷ s) in
-      ap (λ (l : List Call). thenServed (answering hub store l (step .taken .assembler) (step .buffer)) (servedPiece connection room n left))
-      (asks-line (step .buffer) (step .taken .found))
-      ∙ answered-then hub store (feeding.called step) (fedPiece n left) (servedPiece connection room n left) (piece-answered n left)
+pub record Gives (calls : List Call) (begun : ℕ → List ℕ) (s : State) (g : Gave) : Type 0 where
+  pub told : g .told ≡ told calls (run (s .server .hub) (s .store) calls)
+  pub after : hubOf (g .state) ≡ reached (s .server .hub) (s .store) calls
+  pub stands : Stands begun (g .state)
 
-  -- answered at once or when all is fed, from any assembler and buffer
-  pub served-answered : (pieces : List (List ℕ)) (hub : Hub) (store : List ℕ) (a : Assembler) (buffer : List ℕ)
-      → served connection room pieces (server hub store a buffer) ≡ answered hub store (feed pieces a buffer)
-  served-answered [] hub store a buffer = refl
-  served-answered (p ∷ pieces) hub store a buffer =
-      ap (λ (x : Served). thenServed x (served connection room pieces)) (piece-answered (length p) p hub store a buffer)
-      ∙ answered-then hub store (fedPiece (length p) p a buffer) (feed pieces) (served connection room pieces) (served-answered pieces)
+gives-none : {begun : ℕ → List ℕ} {s : State} → Stands begun s → Gives [] begun s (gave [] s)
+gives-none k = record { told = refl; after = refl; stands = k }
 
-  -- where the lines are known
-  served-calls : (pieces : List (List ℕ)) (hub : Hub) (store : List ℕ) (a : Assembler) (buffer : List ℕ) {l : List Line}
-      → feed pieces a buffer .lines ≡ l
-      → served connection room pieces (server hub store a buffer)
-      ≡ answering hub store (map (callOf connection room) l) (feed pieces a buffer .assembler) (feed pieces a buffer .buffer)
-  served-calls pieces hub store a buffer e =
-      let f = feed pieces a buffer in
-      served-answered pieces hub store a buffer
-      ∙ ap (λ (k : List Line). answering hub store (map (callOf connection room) k) (f .assembler) (f .buffer)) e
+gives-then : {k l : List Call} {begun other : ℕ → List ℕ} {s : State} {g : Gave} (next : State → Gave) → Gives k begun s g
+    → Gives l other (g .state) (next (g .state)) → Gives (k ++ l) other s (thenGave g next)
+gives-then {k} {l} {s = s} next x y =
+    let hub = s .server .hub in
+    let store = s .store in
+    record {
+      told = ap₂ (λ (a b : List Told). a ++ b) (x .told) (y .told ∙ ap (λ (r : Reached). told l (run (r .hub) (r .store) l)) (x .after))
+          ∙ sym (told-append hub store k l);
+      after = y .after ∙ ap (λ (r : Reached). reached (r .hub) (r .store) l) (x .after) ∙ sym (reached-append hub store k l);
+      stands = y .stands;
+    }
 
-  -- a server that is as one whose hub answers these calls
-  served-as : {hub : Hub} {store : List ℕ} {calls : List Call} {x : Served} (a : Assembler) (buffer : List ℕ)
-      → x ≡ answering hub store calls a buffer → ServedAs hub store calls x
-  served-as a buffer e = record { said = ap (λ (y : Served). y .said) e; after = ap leaves e }
+-- where the calls and the bytes are the same
+gives-alike : {k l : List Call} {begun other : ℕ → List ℕ} {s : State} {g : Gave} → k ≡ l → ((c : ℕ) → c < connections → begun c ≡ other c)
+    → Gives k begun s g → Gives l other s g
+gives-alike {begun = begun} {other} {s} {g} e same x =
+    subst (λ (calls : List Call). Gives calls other s g) e
+    (record { told = x .told; after = x .after; stands = stands-alike same (x .stands) })
 
-  -- ---- the theorems, of any hub and store
-  pub served-is-lines : (hub : Hub) (store buffer : List ℕ) → length buffer ≡ 4096 → (pieces : List (List ℕ))
-      → ServedAs hub store (callsOf connection room (flatten pieces))
-      (served connection room pieces (server hub store freshAssembler buffer))
-  served-is-lines hub store buffer h pieces =
-      let f = feed pieces freshAssembler buffer in
-      served-as (f .assembler) (f .buffer) (served-calls pieces hub store freshAssembler buffer (feed-is-lines pieces buffer h))
+-- ---- what is told to one connection
+texts-append : (c : ℕ) (k l : List Told) → textsFor c (k ++ l) ≡ textsFor c k ++ textsFor c l
+texts-append c [] l = refl
+texts-append c (x ∷ k) l = rw (texts-append c k l, append-assoc)
 
-  -- two ways to cut one stream, in whatever buffers
-  pub served-anywhere : (hub : Hub) (store b c : List ℕ) → length b ≡ 4096 → length c ≡ 4096 → (ps qs : List (List ℕ))
-      → flatten ps ≡ flatten qs
-      → SameServed (served connection room ps (server hub store freshAssembler b))
-      (served connection room qs (server hub store freshAssembler c))
-  served-anywhere hub store b c h k ps qs e =
-      let x = served-is-lines hub store b h ps in
-      let y = served-is-lines hub store c k qs in
-      let calls = ap (callsOf connection room) e in
+reply-texts : (c : ℕ) (whom : Option ℕ) (words : List ℕ) → textsFor c (replyTo whom words) ≡ forOne c whom words
+reply-texts c none words = refl
+reply-texts c (some other) words = append-nil _
+
+notice-texts : (c : ℕ) (l : List Completion) → textsFor c (map completionTold l) ≡ noticesTo c l
+notice-texts c [] = refl
+notice-texts c (x ∷ l) = rw (notice-texts c l)
+
+answer-texts : (c : ℕ) (asked : Call) (a : Answer) → textsFor c (answerTold (asker asked) a) ≡ writtenBy c asked a
+answer-texts c asked (refused n) = refl
+answer-texts c asked (taken l) = notice-texts c l
+answer-texts c asked (replied words also) = rw (texts-append, reply-texts, reply-texts)
+
+texts-written : (c : ℕ) (calls : List Call) (l : List Said) → textsFor c (told calls l) ≡ writtenTo c calls l
+texts-written c [] l = refl
+texts-written c (asked ∷ calls) [] = refl
+texts-written c (asked ∷ calls) (x ∷ l) =
+    texts-append c (answerTold (asker asked) (x .answer)) (told calls l)
+    ∙ ap₂ (λ (a b : List (List ℕ)). a ++ b) (answer-texts c asked (x .answer)) (texts-written c calls l)
+
+-- ---- the carriers after calls
+reached-carriers : (h l : List Call) (store : List ℕ) → Keeps store (logOf h)
+    → carriersOf (reached (hubAt (logOf h)) store l .hub) (reached (hubAt (logOf h)) store l .store) ≡ carriers (logAfter (logOf h) l)
+reached-carriers h [] store st = carriers-follow h store st
+reached-carriers h (call ∷ l) store st =
+    let f = follows h store st call in
+    let c = called (hubAt (logOf h)) store call in
+    ap (λ (x : Hub). carriersOf (reached x (c .store) l .hub) (reached x (c .store) l .store)) (f .hub)
+    ∙ reached-carriers (call ∷ h) l (c .store) (f .stored)
+
+-- ---- the hub on what the assembler has found
+
+-- the assembler has not refused
+abbrev Met : Found → Type 0
+Met found.Nothing = Unit
+Met (found.Line size) = Unit
+Met found.Overlong = Unit
+Met (found.Refused number) = ⊥
+
+take-met : (a : Assembler) (buffer bytes : List ℕ) → length buffer ≡ bufferSize → Met (takeStep a buffer bytes .taken .found)
+unfolding foundOf
+take-met a buffer bytes h =
+    take-case a buffer bytes (λ (x : Step). Met (x .taken .found)) (λ r. absurd (r h))
+    (λ k l.
+    let size = counted (a .size + length (untilCr bytes)) in
+    cond-case Met (leb size bufferSize) (found.Line size) found.Overlong (λ e. tt) (λ e. tt))
+    (λ k l. tt)
+
+module _ (hub : Hub) (store : List ℕ) (c room : ℕ) (buffer : List ℕ) where
+  -- the calls that it asks of the hub
+  abbrev asked : Found → List Call
+  asked f = map (callOf c room) (lineIn buffer f)
+
+  found-told : (f : Found) → Met f
+      → answerTold (some c) (answerOut (foundStep hub store c room buffer f .decided .answer) []) ≡ told (asked f) (run hub store (asked f))
+  found-told found.Nothing m = refl
+  found-told (found.Line size) m = sym (append-nil _)
+  found-told found.Overlong m = sym (append-nil _)
+  found-told (found.Refused number) m = absurd m
+
+  found-after : (f : Found) → Met f
+      → record { hub = applied hub (foundStep hub store c room buffer f .decided .change); store = foundStep hub store c room buffer f .store }
+      ≡ reached hub store (asked f)
+  found-after found.Nothing m = refl
+  found-after (found.Line size) m = refl
+  found-after found.Overlong m = refl
+  found-after (found.Refused number) m = absurd m
+
+-- ---- the lines of bytes behind others
+module _ (room c : ℕ) where
+  -- the lines of some bytes behind others, as calls
+  abbrev linesOf : List ℕ → List ℕ → List Call
+  linesOf begun bytes = map (callOf c room) (map lineOf (divided begun bytes .parts))
+
+  -- bytes that are served in two goes
+  twice : (begun : ℕ → List ℕ) (x y : List ℕ) (d : ℕ)
+      → begunWith c (divided (divided (begun c) x .rest) y .rest) (begunWith c (divided (begun c) x .rest) begun) d
+      ≡ begunWith c (divided (begun c) (x ++ y) .rest) begun d
+  twice begun x y d = by-test (eqb d c) (λ e. rw (e, divided-append x y (begun c))) (λ e. rw e)
+
+  lines-twice : (begun x y : List ℕ) → linesOf begun x ++ linesOf (divided begun x .rest) y ≡ linesOf begun (x ++ y)
+  lines-twice begun x y = rw (divided-append x y begun, map-append, map-append)
+
+  same-begun : (begun : ℕ → List ℕ) (d : ℕ) → begun d ≡ begunWith c (begun c) begun d
+  same-begun begun d = by-test (eqb d c) (λ e. rw (e, eqb-true d c e)) (λ e. rw e)
+
+module _ (room : ℕ) (enough : 128 ≤ room) where
+  -- ---- a piece
+  module _ (c : ℕ) (few : c ≤ 7) where
+    -- a call with bytes of one of the eight is not refused
+    piece-is : {begun : ℕ → List ℕ} {s : State} → Stands begun s → (bytes : List ℕ)
+        → pieceStep (s .server) (s .store) (s .buffers) c bytes room ≡ servedStep (s .server) (s .store) (s .buffers) c bytes room
+    unfolding pieceStep
+    piece-is {s = s} k bytes = rw (le-ltb 7 c few, le-ltb room 128 enough, eq-eqb (length (s .buffers)) allBuffers (k .room))
+
+    step-gives : {begun : ℕ → List ℕ} (s : State) → Stands begun s → (bytes : List ℕ)
+        → let x = servedStep (s .server) (s .store) (s .buffers) c bytes room in
+        let used = take (x .served .used) bytes in
+        Gives (linesOf room c (begun c) used) (begunWith c (divided (begun c) used .rest) begun) s (pieceGave c x)
+    unfolding servedStep
+    step-gives {begun} s k bytes =
+        let a = assemblerAt (s .server) c in
+        let buffer = bufferAt (s .buffers) c in
+        let step = takeStep a buffer bytes in
+        let fed = call-fed (k .each c (omega arith)) bytes in
+        let met = take-met a buffer bytes (buffer-room k c (omega arith)) in
+        let o = foundStep (s .server .hub) (s .store) c room (step .buffer) (step .taken .found) in
+        let calls = ap (map (callOf c room)) (fed .lines) in
+        gives-alike calls (λ d less. refl)
+        (record {
+          told = found-told (s .server .hub) (s .store) c room (step .buffer) (step .taken .found) met;
+          after = found-after (s .server .hub) (s .store) c room (step .buffer) (step .taken .found) met;
+          stands =
+              stands-set c (omega arith) k (applied (s .server .hub) (o .decided .change)) (o .store) (step .taken .assembler) (step .buffer)
+              (divided (begun c) (take (step .taken .used) bytes) .rest) (fed .holds);
+        })
+
+    piece-gives : (n : ℕ) (bytes : List ℕ) {begun : ℕ → List ℕ} (s : State) → length bytes ≤ n → Stands begun s
+        → Gives (linesOf room c (begun c) bytes) (begunWith c (divided (begun c) bytes .rest) begun) s (pieceServed c room n bytes s)
+    piece-gives zero [] {begun} s l k = gives-alike refl (λ d less. same-begun room c begun d) (gives-none k)
+    piece-gives zero (b ∷ bytes) s l k = absurd (omega arith)
+    piece-gives (suc n) [] {begun} s l k = gives-alike refl (λ d less. same-begun room c begun d) (gives-none k)
+    piece-gives (suc n) (b ∷ bytes) {begun} s l k =
+        let all = b ∷ bytes in
+        let x = pieceStep (s .server) (s .store) (s .buffers) c all room in
+        let is = piece-is k all in
+        let used = x .served .used in
+        let some = ap (λ (y : PieceStep). y .served .used) is in
+        let more : 0 < used =
+        omega (arith, some, served-some (s .server) (s .store) (s .buffers) c all room few (k .room) (omega arith)) in
+        let now : Gives (linesOf room c (begun c) (take used all)) (begunWith c (divided (begun c) (take used all) .rest) begun) s (pieceGave c x) =
+        rw is (step-gives s k all) in
+        let left : length (drop used all) ≤ n = omega (arith, length-drop used all) in
+        let here = begunWith c (divided (begun c) (take used all) .rest) begun in
+        let at : here c ≡ divided (begun c) (take used all) .rest = rw (eq-eqb c c refl) in
+        let later = piece-gives n (drop used all) (pieceGave c x .state) left (now .stands) in
+        let joined = take-append-drop used all in
+        gives-alike
+        (ap (λ (r : List ℕ). linesOf room c (begun c) (take used all) ++ linesOf room c r (drop used all)) at
+        ∙ lines-twice room c (begun c) (take used all) (drop used all)
+        ∙ ap (linesOf room c (begun c)) joined)
+        (λ d less.
+        ap (λ (r : List ℕ). begunWith c (divided r (drop used all) .rest) here d) at
+        ∙ twice room c begun (take used all) (drop used all) d
+        ∙ ap (λ (r : List ℕ). begunWith c (divided (begun c) r .rest) begun d) joined)
+        (gives-then (pieceServed c room n (drop used all)) now later)
+
+  -- a piece of a connection above 7 is refused as a line of it is
+  refused-gives : {begun : ℕ → List ℕ} (c : ℕ) (bytes : List ℕ) (s : State) → ltb 7 c ≡ true → Stands begun s
+      → Gives (call.line c room bytes ∷ []) begun s (pieceGave c (pieceStep (s .server) (s .store) (s .buffers) c bytes room))
+  unfolding pieceStep lineStep
+  refused-gives c bytes s e k = record { told = rw e; after = rw e; stands = rw e k }
+
+  -- ---- a closing
+  closed-gives : {begun : ℕ → List ℕ} (c : ℕ) (s : State) → Stands begun s
+      → Gives (call.closing c ∷ []) (begunWith c [] begun) s (eventServed room (closed c) s)
+  unfolding closedCall hub.closedCall
+  closed-gives {begun} c s k =
+      by-test (ltb 7 c)
+      (λ e.
+      let high = ltb-true 7 c e in
+      record { told = rw e; after = rw e; stands = rw e (stands-alike (λ d less. rw (ne-eqb d c (λ same. omega arith))) k) })
+      (λ e.
+      let low : c < connections = omega (arith, ltb-false 7 c e) in
+      let next = serverOf (hub.closedHub (s .server .hub) c) (set (s .server .assemblers) c freshAssembler) in
       record {
-        said = x .said ∙ ap (run hub store) calls ∙ sym (y .said);
-        after = x .after ∙ ap (reached hub store) calls ∙ sym (y .after);
-      }
+        told = rw e;
+        after = rw e;
+        stands =
+            rw e
+            (subst (λ (b : List ℕ). Stands (begunWith c [] begun) (stateOf next (s .store) b)) (part-back bufferSize (s .buffers) c)
+            (stands-set c low k (hub.closedHub (s .server .hub) c) (s .store) freshAssembler (bufferAt (s .buffers) c) []
+            (holds-fresh (bufferAt (s .buffers) c) (buffer-room k c low))));
+      })
 
-  -- a fresh hub says what the lines mean, by the table and the log book
-  pub served-from-fresh : (store buffer : List ℕ) → length store ≡ 1560 → length buffer ≡ 4096 → (pieces : List (List ℕ))
-      → served connection room pieces (server freshHub store freshAssembler buffer) .said
-      ≡ said [] (callsOf connection room (flatten pieces))
-  served-from-fresh store buffer size h pieces =
-      served-is-lines freshHub store buffer h pieces .said ∙ from-fresh store size (callsOf connection room (flatten pieces))
+  -- ---- every event
+  event-gives : {begun : ℕ → List ℕ} (e : Event) (s : State) → Stands begun s → Gives (callsBy room begun e) (begunBy begun e) s (eventServed room e s)
+  event-gives (piece c bytes) s k =
+      by-test (ltb 7 c)
+      (λ e. rw e (refused-gives c bytes s e k))
+      (λ e. rw e (piece-gives c (ltb-false 7 c e) (length bytes) bytes s (omega arith) k))
+  event-gives (closed c) s k = closed-gives c s k
+  event-gives (reading port value) s k =
+      record { told = sym (append-nil _); after = refl; stands = record { many = k .many; room = k .room; each = k .each } }
+  event-gives (waiting n) s k =
+      record { told = sym (append-nil _); after = refl; stands = record { many = k .many; room = k .room; each = k .each } }
 
-  -- a closing between two streams of one connection: of the first one's unfinished line nothing is left
-  pub closing-drops : (hub : Hub) (store buffer : List ℕ) → length buffer ≡ 4096 → (ps qs : List (List ℕ))
-      → ServedAs hub store (callsOf connection room (flatten ps) ++ closing connection ∷ callsOf connection room (flatten qs))
-      (thenServed (served connection room ps (server hub store freshAssembler buffer)) (closedThen connection room qs))
-  closing-drops hub store buffer h ps qs =
-      let f = feed ps freshAssembler buffer in
-      let g = feed qs freshAssembler (f .buffer) in
-      let before = callsOf connection room (flatten ps) in
-      let after = callsOf connection room (flatten qs) in
-      let r = reached hub store before in
-      let c = closedBy connection (server (r .hub) (r .store) (f .assembler) (f .buffer)) .server in
-      let old = answering hub store before (f .assembler) (f .buffer) in
-      let first = served-calls ps hub store freshAssembler buffer (feed-is-lines ps buffer h) in
-      let second = served-calls qs (c .hub) (c .store) (c .assembler) (c .buffer) (fresh-drops ps qs buffer h) in
-      served-as (g .assembler) (g .buffer)
-      (ap (λ (x : Served). thenServed x (closedThen connection room qs)) first
-      ∙ ap (λ (x : Served). thenServed old (λ (s : Server). thenServed (closedBy connection s) (λ (t : Server). x))) second
-      ∙ sym (answering-append hub store before (closing connection ∷ after) (f .assembler) (g .assembler) (f .buffer) (g .buffer)))
+  events-give : {begun : ℕ → List ℕ} (events : List Event) (s : State) → Stands begun s
+      → Gives (callsFrom room begun events) (begunFrom begun events) s (served room events s)
+  events-give [] s k = gives-none k
+  events-give {begun} (e ∷ events) s k =
+      let x = event-gives e s k in
+      gives-then (served room events) x (events-give events (eventServed room e s .state) (x .stands))
+
+  -- ---- the theorems, from a fresh server, whatever the lent memory holds at first
+  module _ (store buffers : List ℕ) (sized : length store ≡ 1560) (long : length buffers ≡ allBuffers) (events : List Event) where
+    abbrev history : List Call
+    history = historyOf room events
+
+    given : Gives history (begunFrom nothingBegun events) (freshState store buffers) (served room events (freshState store buffers))
+    given = events-give events (freshState store buffers) (stands-fresh store buffers long)
+
+    -- all that is told, to whom and in which order, is what the history means
+    pub events-from-fresh : served room events (freshState store buffers) .told ≡ told history (said [] history)
+    events-from-fresh = given .told ∙ ap (told history) (from-fresh store sized history)
+
+    -- what is written to each connection is what the history of the lines writes to it
+    pub each-connection : (connection : ℕ)
+        → textsFor connection (served room events (freshState store buffers) .told) ≡ writtenTo connection history (said [] history)
+    each-connection connection = ap (textsFor connection) events-from-fresh ∙ texts-written connection history (said [] history)
+
+    -- each connector's carrier then
+    pub events-carriers : carriersOf (served room events (freshState store buffers) .state .server .hub) (served room events (freshState store buffers) .state .store)
+        ≡ carriers (logAfter [] history)
+    unfolding modeIn
+    events-carriers =
+        ap (λ (r : Reached). carriersOf (r .hub) (r .store)) (given .after)
+        ∙ reached-carriers [] history store (record { size = sized; held = λ slot h. tt })
+
+    -- and from contact to file: what a logger at one connection hears of it
+    pub filed-of-events : (connection : ℕ) (pieces : List (List ℕ)) (buffer : List ℕ) → length buffer ≡ 4096
+        → flatten pieces ≡ flatten (textsFor connection (served room events (freshState store buffers) .told))
+        → Filed [] history connection (textsFor connection (served room events (freshState store buffers) .told)) (feed pieces freshAssembler buffer .lines)
+    filed-of-events connection pieces buffer h cut =
+        let by-hub = ap (textsFor connection) (given .told) ∙ texts-written connection history (run freshHub store history) in
+        subst (λ (texts : List (List ℕ)). Filed [] history connection texts (feed pieces freshAssembler buffer .lines)) (sym by-hub)
+        (from-contact-to-file store sized history connection pieces buffer h (cut ∙ ap flatten by-hub))
+
+-- ---- a piece cut in two, wherever it stands among the events, is the same history
+module _ (room : ℕ) (c : ℕ) (few : c ≤ 7) (x y : List ℕ) (after : List Event) where
+  cut-begun : (begun : ℕ → List ℕ) → callsFrom room begun (piece c (x ++ y) ∷ after) ≡ callsFrom room begun (piece c x ∷ piece c y ∷ after)
+  cut-begun begun =
+      let low = le-ltb 7 c few in
+      let here = begunWith c (divided (begun c) x .rest) begun in
+      let at : here c ≡ divided (begun c) x .rest = rw (eq-eqb c c refl) in
+      let same : begunWith c (divided (begun c) (x ++ y) .rest) begun ≡ begunWith c (divided (divided (begun c) x .rest) y .rest) here =
+      λ i d. sym (twice room c begun x y d) i in
+      rw low
+      (ap₂ (λ (l : List Call) (b : ℕ → List ℕ). l ++ callsFrom room b after) (sym (lines-twice room c (begun c) x y)) same
+      ∙ append-assoc (linesOf room c (begun c) x) (linesOf room c (divided (begun c) x .rest) y) _
+      ∙ ap (λ (r : List ℕ). linesOf room c (begun c) x ++ (linesOf room c r y ++ callsFrom room (begunWith c (divided r y .rest) here) after)) (sym at))
+
+  pub cut-anywhere : (before : List Event) → historyOf room (before ++ (piece c (x ++ y) ∷ after)) ≡ historyOf room (before ++ (piece c x ∷ piece c y ∷ after))
+  cut-anywhere before = go before nothingBegun
+    where
+      go : (before : List Event) (begun : ℕ → List ℕ)
+          → callsFrom room begun (before ++ (piece c (x ++ y) ∷ after)) ≡ callsFrom room begun (before ++ (piece c x ∷ piece c y ∷ after))
+      go [] begun = cut-begun begun
+      go (e ∷ before) begun = ap (λ (l : List Call). callsBy room begun e ++ l) (go before (begunBy begun e))

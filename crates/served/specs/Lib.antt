@@ -1,1 +1,3 @@
-pub mod Served
+pub mod Events
+pub mod Told
+pub mod Serving

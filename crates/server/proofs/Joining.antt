@@ -1,28 +1,26 @@
 -- A connection's assembler on its part of the buffers, and the hub on the line that stands there.
-use Prim.Native.Nat.{ℕ, _+_, _-_, _*_, _≤_}
+use Prim.Native.Nat.{ℕ, _+_, _*_, _≤_}
 use mathlib.Core.Path.{_≡_, refl, sym, ap, _∙_}
-use mathlib.Core.Bool.{true, false}
-use mathlib.Core.List.{List, [], _∷_, _++_, append-assoc}
+use mathlib.Core.List.{List, [], _++_}
 use native.Mathlib.Omega.{arith}
-use native.Mathlib.Nat.{zero-add}
-use borrow.Author.Tests.{leb-true, leb-false}
+use borrow.Author.Tests.{leb-true}
 use lib.Dec.{leb}
 use lib.ListN.{length, take, drop, set, length-drop}
-use lib.Seq.{length-take-le, length-sets, take-append-le, drop-at}
+use lib.Seq.{length-take-le, length-sets}
 use Rattle.laws.specs.Put.{over}
-use Rattle.laws.proofs.Choice.{by-test, cond-case}
+use Rattle.laws.proofs.Choice.{cond-case}
+use Rattle.laws.proofs.Parts.{laid-back, over-front-here}
 use Rattle.laws.proofs.Storing.{stores-stored}
 use Rattle.lines.specs.declared.Assembler.{Assembler}
 use Rattle.lines.specs.declared.Found.{Found}
 use Rattle.lines.specs.declared.Found.the-variants as found
 use Rattle.lines.specs.declared.Taken.{Taken}
-use Rattle.lines.specs.Take.{SoundAssembler, counted, foundOf, untilCr, Step, takeStep, Takes}
+use Rattle.lines.specs.Take.{counted, foundOf, untilCr, Step, takeStep, Takes}
 use Rattle.lines.proofs.Keeps.{take-case}
 use Rattle.hub.specs.declared.Hub.{Hub}
 use Rattle.hub.specs.declared.Answered.{Answered}
 use Rattle.hub.specs.Record.{applied, InRange}
 use Rattle.hub.proofs.Keeps.{line-in-range, overlong-in-range}
-use Rattle.hub.proofs.Parts.{laid-back}
 use Rattle.server.specs.declared.Server.{Server}
 use Rattle.server.specs.Record.{allBuffers, bufferSize, serverOf, assemblerAt, bufferAt}
 use Rattle.server.specs.Piece.{foundStep, servedStep, Serves, Joins, FoundAnswers, Fits}
@@ -61,22 +59,12 @@ joins buffers from n a piece {r} {part} e fits t =
 
 -- ---- the line in the buffers
 
--- the bytes of a part that was laid into the buffers
-laid-part : (buffers part : List ℕ) (from size : ℕ) → from ≤ length buffers → size ≤ length part
-    → take size (drop from (over buffers from part)) ≡ take size part
-unfolding over
-laid-part buffers part from size h k =
-    let rest = drop (from + length part) buffers in
-    ap (λ (l : List ℕ). take size (drop from l)) (append-assoc (take from buffers) part rest)
-    ∙ ap (take size) (drop-at (take from buffers) (part ++ rest) from (length-take-le from buffers h))
-    ∙ take-append-le size part rest k
-
 module _ (hub : Hub) (store : List ℕ) (connection room : ℕ) where
   -- it is the same line in the buffers as in the part
-  found-in : (buffers part : List ℕ) (from : ℕ) (f : Found) → from ≤ length buffers → Fits f (length part) 0
+  found-in : (buffers part : List ℕ) (from : ℕ) (f : Found) → from + length part ≤ length buffers → Fits f (length part) 0
       → foundStep hub store connection room (drop from (over buffers from part)) f ≡ foundStep hub store connection room part f
   found-in buffers part from found.Nothing h k = refl
-  found-in buffers part from (found.Line size) h k = rw (laid-part buffers part from size h (omega arith))
+  found-in buffers part from (found.Line size) h k = rw (over-front-here buffers from part h size (omega arith))
   found-in buffers part from found.Overlong h k = refl
   found-in buffers part from (found.Refused number) h k = refl
 

@@ -1,6 +1,6 @@
 -- Soundness of the server: a fresh one has it, and every event keeps it; a refused piece changes nothing, and what a piece uses is within it.
 use Prim.Native.Nat.{ℕ, _*_, _≤_, _<_}
-use mathlib.Core.Path.{_≡_, refl, sym}
+use mathlib.Core.Path.{_≡_}
 use mathlib.Core.Bool.{not}
 use mathlib.Core.List.{List, []}
 use native.Mathlib.Omega.{arith}
@@ -9,7 +9,7 @@ use lib.Dec.{ltb, eqb}
 use lib.ListN.{length, take, drop, length-drop, getD-replicate}
 use lib.Seq.{length-take-le}
 use Rattle.laws.proofs.Choice.{cond-case}
-use Rattle.lines.specs.declared.Assembler.{Assembler}
+use Rattle.laws.proofs.Parts.{stored-at}
 use Rattle.lines.specs.declared.Found.{Found}
 use Rattle.lines.specs.declared.Found.the-variants as found
 use Rattle.lines.specs.Take.{freshAssembler, SoundAssembler, takeStep}
@@ -17,13 +17,12 @@ use Rattle.lines.proofs.Keeps.{take-sound, used-within, used-some}
 use Rattle.lines.proofs.Keeps as lines
 use Rattle.hub.specs.declared.Hub.{Hub}
 use Rattle.hub.specs.Record.{applied, SoundHub}
-use Rattle.hub.proofs.Keeps.{stored, line-sound, overlong-sound}
+use Rattle.hub.proofs.Keeps.{line-sound, overlong-sound}
 use Rattle.hub.proofs.Keeps as hub
 use Rattle.server.specs.declared.Server.{Server}
-use Rattle.server.specs.declared.PieceServed.{PieceServed}
 use Rattle.server.specs.declared.Served.{Served}
 use Rattle.server.specs.Record.{connections, bufferSize, allBuffers, freshServer, assemblerAt, bufferAt, SoundServer}
-use Rattle.server.specs.Piece.{PieceStep, refusing, foundStep, servedStep, pieceStep, Serves}
+use Rattle.server.specs.Piece.{PieceStep, refusing, foundStep, servedStep, pieceStep}
 use Rattle.server.specs.Calls.{closedCall, readingCall, waitCall}
 
 -- a fresh server is sound
@@ -65,7 +64,7 @@ module _ (s : Server) (store buffers : List ℕ) (connection : ℕ) (piece : Lis
         hub = found-sound (s .hub) store connection room (step .buffer) (step .taken .found) (k .hub);
         each =
             λ at less.
-            stored SoundAssembler (s .assemblers) connection at (step .taken .assembler) freshAssembler
+            stored-at SoundAssembler (s .assemblers) connection at (step .taken .assembler) freshAssembler
             (take-sound (assemblerAt s connection) (bufferAt buffers connection) piece (k .each connection (omega arith)))
             (k .each at less);
       }
@@ -99,7 +98,7 @@ closed-sound s connection k =
       hub = hub.closed-sound (s .hub) connection (k .hub);
       each =
           λ at less.
-          stored SoundAssembler (s .assemblers) connection at freshAssembler freshAssembler lines.fresh-sound (k .each at less);
+          stored-at SoundAssembler (s .assemblers) connection at freshAssembler freshAssembler lines.fresh-sound (k .each at less);
     })
 
 pub reading-sound : (s : Server) (port value : ℕ) → SoundServer s → SoundServer (readingCall s port value .server)

@@ -1,7 +1,7 @@
 -- The record of a server: the hub, and an assembler for each connection. Document 01: "Connections are numbered 0 to 7".
 use Prim.Native.Nat.{ℕ, _*_, _<_}
 use mathlib.Core.List.{List}
-use lib.ListN.{getD, set, replicate, take, drop}
+use lib.ListN.{getD, replicate, take, drop}
 use Rattle.lines.specs.declared.Assembler.{Assembler}
 use Rattle.lines.specs.Take.{freshAssembler, SoundAssembler}
 use Rattle.hub.specs.declared.Hub.{Hub}

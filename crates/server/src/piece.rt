@@ -9,7 +9,7 @@ use hub::Store;
 use lines::Assembler;
 use lines::Found;
 ghost use mathlib.Core.Path.{_≡_};
-ghost use Prim.Native.Nat.{_+_, _*_, _≤_, _<_};
+ghost use Prim.Native.Nat.{_+_, _*_, _≤_};
 ghost use lib.ListN.{length, take, drop};
 ghost use Rattle.lines.specs.Take.{SoundAssembler, takeStep};
 ghost use Rattle.hub.specs.Record.{SoundHub};

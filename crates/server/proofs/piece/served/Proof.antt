@@ -1,9 +1,6 @@
 -- `server::piece::served` meets its contract.
-use Prim.Native.Nat.{_*_}
 use native.Mathlib.Omega.{arith}
-use lib.ListN.{length}
 use denote.Ref.{now}
-use Rattle.server.specs.Record.{bufferSize}
 use Rattle.server.proofs.Joining.{found-fits, found-in-range, serves}
 use borrow.Author.Needs.{needs}
 use Rattle.server.proofs.piece.served.Statement.{statement}

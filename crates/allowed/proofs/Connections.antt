@@ -13,8 +13,8 @@ pub server-piece : One server.Server.piece.ended (λ _. server.Server.piece.spec
 server-piece = promised _ refl (λ _ _ _ _ _ _ p q. (
   p .result ∙ sym (q .result),
   both refl
-  (both (p .kept ∙ sym (q .kept))
-  (both (p .joined ∙ sym (q .joined)) (both refl (both refl (both (p .laid ∙ sym (q .laid)) refl))))),
+      (both (p .kept ∙ sym (q .kept))
+      (both (p .joined ∙ sym (q .joined)) (both refl (both refl (both (p .laid ∙ sym (q .laid)) refl))))),
 ))
 
 -- server::Server::closed

@@ -56,7 +56,7 @@ abbrev pub leftBy : (ℕ → Known) → ℕ → ℕ → Known
 leftBy K connection p = withSending (K p) (ownerLeft (K p .owner) connection) (K p .sending)
 
 -- as many as the record counts are the list
-listed-of : (l : List Completion) → listed (completionsOf l) ≡ l
+pub listed-of : (l : List Completion) → listed (completionsOf l) ≡ l
 listed-of l = take-append-seam l (replicate (connectors - length l) noCompletion)
 
 -- the place of a slot's connector

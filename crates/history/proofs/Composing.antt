@@ -1,7 +1,7 @@
 -- Waiting composes, from a fresh hub and after any calls; a wait of 0 changes nothing.
 use Prim.Native.Nat.{ℕ, _+_, _≤_}
 use mathlib.Core.Path.{_≡_, refl, sym, ap, ap₂, _∙_, subst}
-use mathlib.Core.Bool.{true}
+use mathlib.Core.Bool.{Bool, true}
 use mathlib.Core.List.{List, [], _∷_, _++_, map}
 use mathlib.Core.Option.{Option, none, some}
 use native.Mathlib.Omega.{arith}
@@ -10,18 +10,22 @@ use lib.Dec.{ltb}
 use lib.ListN.{length}
 use borrow.Author.Tests.{le-ltb}
 use Rattle.laws.proofs.Choice.{by-test}
-use Rattle.laws.specs.Lists.{gathered}
+use Rattle.laws.specs.Lists.{all, gathered}
+use Rattle.laws.specs.Checks.{between}
 use Rattle.words.specs.Places.{ports}
 use Rattle.request.specs.declared.Place.{Place}
 use Rattle.request.specs.Place.{placeOf}
 use Rattle.meaning.specs.Time.{Transmission, complete}
 use Rattle.meaning.specs.Log.{now, relayOf, until}
 use Rattle.meaning.specs.Table.{Call, waiting, logOf}
+use Rattle.meaning.specs.Table as table
+use Rattle.theorems.proofs.Order.{moments-within}
 use Rattle.connector.specs.declared.Completion.{Completion}
 use Rattle.hub.specs.declared.Hub.{Hub}
 use Rattle.hub.specs.Record.{freshHub}
 use Rattle.hub.specs.Completions.{ordered}
 use Rattle.hub.specs.Wait.{waitCall}
+use Rattle.history.specs.Heard.{completionOut}
 use Rattle.history.specs.Run.{Called, called, run}
 use Rattle.history.specs.Waiting.{movedBy, Reached, reached, at, afterwards, Composes, ChangesNothing}
 use Rattle.reads.proofs.Cursor.{modeIn}
@@ -33,6 +37,7 @@ use Rattle.history.proofs.Joining.{due, completions}
 use Rattle.history.proofs.Calling.{wait-passes, wait-completes}
 use Rattle.history.proofs.Waits.{completions-add}
 use Rattle.history.proofs.View.{view}
+use Rattle.history.proofs.Told.{completions-are}
 use Rattle.history.proofs.Logged.{logged-fit}
 use Rattle.history.proofs.Following.{hubAt, Keeps, follows}
 
@@ -156,3 +161,23 @@ pub wait-of-0 : (store : List ℕ) → length store ≡ 1560 → (calls : List C
 wait-of-0 =
     after-any (λ r. ChangesNothing r (waiting 0))
     (λ h s. no-wait (now (logOf h)) (view (logOf h)) (λ p. relayOf p (logOf h)) (logged-fit h) s)
+
+-- ---- when a wait's completions are
+-- a test of each, in the meaning's words and in the hub's
+all-out : (test : table.Completion → Bool) (l : List Completion) → all test (map completionOut l) ≡ all (λ x. test (completionOut x)) l
+all-out test [] = refl
+all-out test (x ∷ l) = rw (all-out test l)
+
+-- behind the wait's start, and not behind its end
+pub waits-within : (store : List ℕ) → length store ≡ 1560 → (calls : List Call) (n : ℕ) → n ≤ 1000000000
+    → all (λ x. between 1 n (x .moment .0)) (at (reached freshHub store calls) (waiting n) .completions) ≡ true
+waits-within store size calls n low =
+    after-any (λ r. all (λ x. between 1 n (x .moment .0)) (at r (waiting n) .completions) ≡ true)
+    (λ h s.
+    let log = logOf h in
+    let l = completions (now log) (view log) n in
+    ap (all (λ x. between 1 n (x .moment .0))) (wait-gives (now log) (view log) (λ p. relayOf p log) (logged-fit h) s n low)
+    ∙ sym (all-out (λ x. between 1 n (x .moment)) l)
+    ∙ ap (all (λ x. between 1 n (x .moment))) (sym (completions-are log n))
+    ∙ moments-within h n)
+    store size calls

@@ -1,1 +1,3 @@
 pub mod Serving
+pub mod Due
+pub mod Worked

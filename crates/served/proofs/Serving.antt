@@ -47,7 +47,7 @@ use Rattle.served.specs.Told.{Told, answerTold, told, textsFor, replyTo,
 use Rattle.served.specs.Serving.{State, stateOf, freshState, Gave, gave, thenGave, pieceGave, pieceServed, eventServed, served}
 
 -- ---- calls one after the other
-reached-append : (hub : Hub) (store : List ℕ) (k l : List Call)
+pub reached-append : (hub : Hub) (store : List ℕ) (k l : List Call)
     → reached hub store (k ++ l) ≡ reached (reached hub store k .hub) (reached hub store k .store) l
 reached-append hub store [] l = refl
 reached-append hub store (call ∷ k) l =
@@ -349,7 +349,7 @@ module _ (room : ℕ) (enough : 128 ≤ room) where
     abbrev history : List Call
     history = historyOf room events
 
-    given : Gives history (begunFrom nothingBegun events) (freshState store buffers) (served room events (freshState store buffers))
+    pub given : Gives history (begunFrom nothingBegun events) (freshState store buffers) (served room events (freshState store buffers))
     given = events-give events (freshState store buffers) (stands-fresh store buffers long)
 
     -- all that is told, to whom and in which order, is what the history means

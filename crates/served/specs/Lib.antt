@@ -1,3 +1,4 @@
 pub mod Events
 pub mod Told
 pub mod Serving
+pub mod Due

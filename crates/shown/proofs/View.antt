@@ -7,12 +7,9 @@ use mathlib.Core.Option.{Option, none, some}
 use native.Mathlib.Omega.{arith}
 use borrow.Author.Tests.{eqb-true, eq-eqb, ltb-true, ltb-false, lt-leb, le-leb}
 use lib.Dec.{eqb, ltb}
-use lib.ListN.{length}
-use Rattle.laws.specs.Bytes.{bytes}
 use Rattle.laws.specs.Checks.{between, holds, isSome}
 use Rattle.laws.specs.Lists.{same}
 use Rattle.laws.proofs.Choice.{by-test, cond-case, between-true}
-use Rattle.laws.proofs.Lists.{same-is}
 use Rattle.words.specs.Places.{connectors}
 use Rattle.words.specs.declared.Pair.{Pair}
 use Rattle.words.specs.declared.Fields.{Fields}
@@ -41,10 +38,10 @@ use Rattle.connector.specs.declared.Contact.the-variants.{Unread, Read}
 use Rattle.connector.specs.Change.{sameMode, owns, ownerLeft}
 use Rattle.connector.specs.Send.{sameFields}
 use Rattle.reads.specs.Meant.{sensorAt, meantCommand, meantRead, meantAsk, meantTurn, meant}
-use Rattle.reads.proofs.Cursor.{modeIn}
+use Rattle.reads.proofs.Cursor.{modeIn, sensor-is}
 use Rattle.reads.proofs.Rows.{line-is}
-use Rattle.history.proofs.Known as known
-use Rattle.history.proofs.Known.{Known, withSending, sameCommand, commanded, sentTo, asked, knownAfter, relaysAfter, readAs}
+use Rattle.shown.proofs.Known as known
+use Rattle.shown.proofs.Known.{Known, withSending, sameCommand, commanded, sentTo, asked, knownAfter, relaysAfter, readAs}
 
 -- ---- the look-ups as a record
 
@@ -67,14 +64,6 @@ abbrev pub Worded : List Deed → Type 0
 Worded l = (p : ℕ) → modeWord (modeIn (modeOf p l)) ≡ modeOf p l
 
 -- ---- the same in both words
-
--- a mode's word is SENSOR where the mode is
-pub sensor-is : (w : List ℕ) → is "SENSOR" w ≡ isSensor (modeIn w)
-unfolding modeIn
-sensor-is w =
-    by-test (is "IR" w)
-    (λ e. rw (e, ← same-is (bytes "IR") w e))
-    λ e. rw e (by-test (is "SENSOR" w) (λ f. rw f) (λ f. rw f))
 
 -- a mode from its own word
 mode-back : (mode : Mode) → modeIn (modeWord mode) ≡ mode

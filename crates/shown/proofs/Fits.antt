@@ -21,8 +21,8 @@ use Rattle.meaning.specs.Log.{until}
 use Rattle.waveform.specs.Paced.{Fit}
 use Rattle.waveform.proofs.Paced.{fit-started, fit-renewed, fit-later}
 use Rattle.connector.specs.Change.{owns, sameMode}
-use Rattle.history.proofs.Known.{Known, transmits, sameCommand, commanded, sentTo, asked, knownAfter, withMode}
-use Rattle.history.proofs.Shown.{FitFor, fit-on-air}
+use Rattle.shown.proofs.Known.{Known, transmits, sameCommand, commanded, sentTo, asked, knownAfter, withMode}
+use Rattle.shown.proofs.Shown.{FitFor, fit-on-air}
 
 -- ---- what is asked makes of a connector
 module _ (t connection : ℕ) (x : Known) (g : FitFor t (x .sending)) where

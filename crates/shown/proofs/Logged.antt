@@ -13,11 +13,11 @@ use Rattle.meaning.specs.Log.{Deed, now, modeOf, lastOf}
 use Rattle.meaning.specs.Table.{Judged, deedsOf, Call, line, overlong, reading, closing, waiting, judge, logOf}
 use Rattle.request.specs.Request.{readRequest}
 use Rattle.reads.proofs.Rows.{line-is}
-use Rattle.history.proofs.Known.{Known}
-use Rattle.history.proofs.Shown.{FitFor}
-use Rattle.history.proofs.Fits.{request-fit, fit-after}
+use Rattle.shown.proofs.Known.{Known}
+use Rattle.shown.proofs.Shown.{FitFor}
+use Rattle.shown.proofs.Fits.{request-fit, fit-after}
 use Rattle.reads.specs.Meant.{meant}
-use Rattle.history.proofs.View.{view, Worded, worded, request-step, now-step}
+use Rattle.shown.proofs.View.{view, Worded, worded, request-step, now-step}
 
 module _ (log : List Deed) (words : Worded log) (p : ℕ) (fit : FitFor (now log) (lastOf p log)) where
   -- it is fit after a judgement

@@ -41,7 +41,7 @@ use Rattle.connector.specs.Send.{sameFields, runOf}
 use Rattle.connector.specs.Step.{alsoTold}
 use Rattle.connector.specs.Pass.{passing, passingRun, after, doneOf}
 use Rattle.connector.specs.Carrier as carried
-use Rattle.history.proofs.Known.{Known, transmits, withSending, withMode, sameCommand, told, withReading, dueOf}
+use Rattle.shown.proofs.Known.{Known, transmits, withSending, withMode, sameCommand, told, withReading, dueOf}
 
 -- ---- the record
 

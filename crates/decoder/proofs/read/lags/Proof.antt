@@ -1,9 +1,9 @@
 -- `code::read::lags` meets its contract.
 use mathlib.Core.Path.{sym, _∙_}
-use Rattle.code.specs.Follows.{lags}
+use Rattle.decoder.specs.Follows.{lags}
 use borrow.Author.Needs.{needs}
-use Rattle.code.proofs.read.lags.Statement.{statement}
-use Rattle.code.proofs.read.lags.Tie as tie
+use Rattle.decoder.proofs.read.lags.Statement.{statement}
+use Rattle.decoder.proofs.read.lags.Tie as tie
 
 byte-at-requires : tie.Need-byte-at-requires
 byte-at-requires c κs = search needs

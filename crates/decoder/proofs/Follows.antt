@@ -15,16 +15,16 @@ use Rattle.laws.proofs.Lists.{sets-append}
 use Rattle.words.specs.declared.Pair.{Pair}
 use Rattle.words.specs.Pairs.{pair, countsOf}
 use Rattle.words.proofs.Pairs.{counts-length, counts-append, counts-on, counts-off}
 use Rattle.code.specs.declared.next.Next.{Next}
 use Rattle.code.specs.declared.next.Next.the-variants.{Spelled, Letter}
 use Rattle.code.specs.declared.next.After.{After}
 use Rattle.code.specs.declared.next.After.the-variants.{Spelling, Lettering}
 use Rattle.code.specs.Letters.{learnt, lettersOf}
 use Rattle.code.specs.Next.{isLetter, letterAt, nextPair}
 use Rattle.code.specs.Read.{readOn, readFrom}
-use Rattle.code.specs.Follows.{Follows, pairsAt}
+use Rattle.decoder.specs.Follows.{Follows, pairsAt}
 use Rattle.code.proofs.Lettering.{letters-more, learnt-again}
 use Rattle.code.proofs.Nexts.{Sound, next-sound}
 
 -- what stands next is within the limits
 next-found : (freq : ℕ) (s : List ℕ) (t : List Pair) (count at : ℕ) (after : After) {x : Next} → nextPair freq count (length t) after s at ≡ x

@@ -13,13 +13,13 @@ use Rattle.words.specs.Digits.{isDigit}
 use Rattle.text.specs.Number.{grown, numberAt}
 use Rattle.text.specs.declared.number.Number.the-variants.{Value}
 use Rattle.text.proofs.Reading.{Reading, reading-start, reading-more, reading-stop, reading-small, digit-range}
 use Rattle.code.specs.declared.next.Count.the-variants.{Good}
 use Rattle.code.specs.declared.next.Next.the-variants.{Spelled}
 use Rattle.code.specs.declared.next.After.the-variants.{Spelling}
 use Rattle.code.specs.Limits.{legal}
 use Rattle.code.specs.Next.{isLetter, countAt, offAt, afterOn, spelledAt, begunAt, nextPair}
-use Rattle.code.specs.Quick.{NumberBehind, ShortAt}
+use Rattle.decoder.specs.Quick.{NumberBehind, ShortAt}
 use Rattle.code.proofs.Smallest.{legal-is}
 
 -- the digits from a place to before i, worth v
 pub record Shortly (s : List ℕ) (at v i : ℕ) : Type 0 where

@@ -15,19 +15,19 @@ use Rattle.laws.proofs.Storing.{stores-stored}
 use Rattle.words.specs.declared.Pair.{Pair}
 use Rattle.words.specs.Pairs.{pair, countsOf, countsIn}
 use Rattle.words.proofs.Pairs.{counts-stored}
 use Rattle.code.specs.declared.Code.the-variants as code
 use Rattle.code.specs.declared.letters.Letters.{Letters}
 use Rattle.code.specs.declared.next.Next.{Next}
 use Rattle.code.specs.declared.next.Next.the-variants.{End, Spelled, Letter, Fault}
 use Rattle.code.specs.declared.next.After.{After}
 use Rattle.code.specs.declared.next.After.the-variants.{Nothing, Spelling, Lettering}
 use Rattle.code.specs.Letters.{noLetters, lettersOf, held, Kept}
 use Rattle.code.specs.Next.{isLetter, nextPair}
 use Rattle.code.specs.Read.{Reading, pairs, fault, readCode, readOf, found, ReadInto}
-use Rattle.code.specs.Follows.{Follows, pairsAt, lags}
+use Rattle.decoder.specs.Follows.{Follows, pairsAt, lags}
 use Rattle.code.proofs.Nexts.{Sound, next-sound, next-unlettered}
 use Rattle.code.proofs.Lettering.{letters-more}
-use Rattle.code.proofs.Follows.{turn, follows-none, follows-then, then-more, follows-spelled, follows-letter, pairs-stored}
+use Rattle.decoder.proofs.Follows.{turn, follows-none, follows-then, then-more, follows-spelled, follows-letter, pairs-stored}
 
 -- after count pairs, of which the first have been learnt, at a place: what is left gives the same reading
 pub record Going (freq : ℕ) (s : List ℕ) (start : ℕ) (before counts : List ℕ) (letters : Letters) (seen count at : ℕ) (after : After) : Type 0 where

@@ -8,15 +8,15 @@ use borrow.Author.Tests.{not-false}
 use lib.ListN.{length, length-map, getD}
 use lib.Seq.{getD-take, length-take-le}
 use Rattle.words.specs.Pairs.{pair}
 use Rattle.code.specs.declared.next.After.the-variants.{Lettering}
 use Rattle.code.specs.Letters.{held}
 use Rattle.code.specs.Next.{isLetter}
-use Rattle.code.specs.Follows.{Follows}
+use Rattle.decoder.specs.Follows.{Follows}
 use Rattle.code.proofs.Nexts.{letter-low, letter-high}
-use Rattle.code.proofs.Follows.{run-none, run-more}
+use Rattle.decoder.proofs.Follows.{run-none, run-more}
 use borrow.Author.Needs.{needs}
-use Rattle.code.proofs.read.letter_run.Statement.{statement}
-use Rattle.code.proofs.read.letter_run.Tie as tie
+use Rattle.decoder.proofs.read.letter_run.Statement.{statement}
+use Rattle.decoder.proofs.read.letter_run.Tie as tie
 
 abbrev Inv-loop : tie.InvT-loop
 Inv-loop letters s count at counts₀ known most more₀ counts more =

@@ -7,11 +7,11 @@ use lib.ListN.{length, getD}
 use Rattle.words.specs.Digits.{isDigit}
 use Rattle.text.specs.Number.{numberAt}
 use Rattle.text.specs.declared.number.Number.the-variants.{Value}
 use Rattle.code.specs.declared.next.Next.the-variants.{Spelled}
 use Rattle.code.specs.declared.next.After.the-variants.{Spelling}
-use Rattle.code.specs.declared.quick.Quick.{Quick}
-use Rattle.code.specs.declared.quick.Quick.the-variants.{Pair, Other}
+use Rattle.decoder.specs.declared.quick.Quick.{Quick}
+use Rattle.decoder.specs.declared.quick.Quick.the-variants.{Pair, Other}
 use Rattle.code.specs.Next.{nextPair}
 
 -- a comma at a place, and a number behind it that ends before next
 pub record NumberBehind (s : List ℕ) (comma value next : ℕ) : Type 0 where

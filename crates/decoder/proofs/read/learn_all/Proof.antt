@@ -4,13 +4,13 @@ use mathlib.Core.Path.{_≡_, refl, sym, _∙_}
 use native.Mathlib.Omega.{arith}
 use lib.ListN.{length, length-map}
 use Rattle.words.specs.Pairs.{pair}
 use Rattle.code.specs.Letters.{lettersOf, held, Kept}
-use Rattle.code.specs.Follows.{pairsAt}
+use Rattle.decoder.specs.Follows.{pairsAt}
 use Rattle.code.proofs.Lettering.{kept-held}
-use Rattle.code.proofs.Follows.{learn-turn}
+use Rattle.decoder.proofs.Follows.{learn-turn}
 use borrow.Author.Needs.{needs}
-use Rattle.code.proofs.read.learn_all.Statement.{statement}
-use Rattle.code.proofs.read.learn_all.Tie as tie
+use Rattle.decoder.proofs.read.learn_all.Statement.{statement}
+use Rattle.decoder.proofs.read.learn_all.Tie as tie
 
 abbrev Inv-loop : tie.InvT-loop
 Inv-loop counts from to known₀ i₀ known i = Kept known (held known) × (lettersOf (held known₀) (pairsAt counts from (to - from)) ≡ lettersOf (held known) (pairsAt counts i (to - i)))

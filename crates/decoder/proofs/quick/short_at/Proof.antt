@@ -8,10 +8,10 @@ use lib.ListN.{length, getD}
 use borrow.Author.Tests.{not-true, not-false}
 use Rattle.words.specs.Digits.{isDigit}
 use Rattle.text.proofs.Reading.{digit-range}
-use Rattle.code.proofs.Shorts.{Shortly, shortly-start, shortly-small, shortly-more, shortly-stop}
+use Rattle.decoder.proofs.Shorts.{Shortly, shortly-start, shortly-small, shortly-more, shortly-stop}
 use borrow.Author.Needs.{needs}
-use Rattle.code.proofs.quick.short_at.Statement.{statement}
-use Rattle.code.proofs.quick.short_at.Tie as tie
+use Rattle.decoder.proofs.quick.short_at.Statement.{statement}
+use Rattle.decoder.proofs.quick.short_at.Tie as tie
 
 abbrev Inv-loop : tie.InvT-loop
 Inv-loop s comma none end value₀ i₀ value i = Shortly s (comma + 1) value i × (getD s comma 0 ≡ 44) × (comma + 7 ≤ length s)

@@ -1,6 +1,6 @@
 // A spelled pair read quickly: where one is found, next_pair finds the same; anything else is left to it.
 use text::number::is_digit;
-ghost use Rattle.code.specs.Quick.{ShortAt, QuickAt};
+ghost use Rattle.decoder.specs.Quick.{ShortAt, QuickAt};
 ghost use mathlib.Core.Path.{_≡_};
 
 // A number and the place behind it.
@@ -61,11 +61,11 @@ pub fn quick_at(freq: u64, s: &[u8], at: usize) -> Quick
     ensures { λ r. ⌜ QuickAt freq (now (s .entry)) at r ⌝ }
 {
     let on = short_at(s, at);
-    if !crate::limits::is_legal(freq, on.value) {
+    if !code::limits::is_legal(freq, on.value) {
         return Quick::Other;
     }
     let off = short_at(s, on.next);
-    if !crate::limits::is_legal(freq, off.value) {
+    if !code::limits::is_legal(freq, off.value) {
         return Quick::Other;
     }
     Quick::Pair(on.value as u16, off.value as u16, off.next)

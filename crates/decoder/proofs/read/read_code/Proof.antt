@@ -6,11 +6,11 @@ use mathlib.Core.List.{[]}
 use denote.Ref.{now}
 use native.Mathlib.Omega.{arith}
 use lib.ListN.{length}
-use Rattle.code.specs.Follows.{lags}
-use Rattle.code.proofs.Reading.{Going, lagging, going-start, going-room, going-learnt, going-end, going-fault, going-spelled, going-letter, going-sound}
+use Rattle.decoder.specs.Follows.{lags}
+use Rattle.decoder.proofs.Reading.{Going, lagging, going-start, going-room, going-learnt, going-end, going-fault, going-spelled, going-letter, going-sound}
 use borrow.Author.Needs.{needs}
-use Rattle.code.proofs.read.read_code.Statement.{statement}
-use Rattle.code.proofs.read.read_code.Tie as tie
+use Rattle.decoder.proofs.read.read_code.Statement.{statement}
+use Rattle.decoder.proofs.read.read_code.Tie as tie
 
 abbrev Inv-loop : tie.InvT-loop
 Inv-loop freq s start counts₀ letters₀ seen₀ count₀ at₀ after₀ counts letters seen count at after =

@@ -4,13 +4,13 @@ use mathlib.Core.Path.{_≡_, subst}
 use mathlib.Core.List.{List}
 use lib.ListN.{length}
 use Rattle.words.specs.declared.Pair.{Pair}
 use Rattle.code.specs.declared.next.After.the-variants.{Spelling}
-use Rattle.code.specs.Quick.{QuickAt}
-use Rattle.code.specs.Follows.{Follows}
-use Rattle.code.proofs.Follows.{follows-none, follows-then, follows-spelled}
+use Rattle.decoder.specs.Quick.{QuickAt}
+use Rattle.decoder.specs.Follows.{Follows}
+use Rattle.decoder.proofs.Follows.{follows-none, follows-then, follows-spelled}
 use borrow.Author.Needs.{needs}
-use Rattle.code.proofs.read.spelled_run.Statement.{statement}
-use Rattle.code.proofs.read.spelled_run.Tie as tie
+use Rattle.decoder.proofs.read.spelled_run.Statement.{statement}
+use Rattle.decoder.proofs.read.spelled_run.Tie as tie
 
 abbrev Inv-loop : tie.InvT-loop
 Inv-loop freq s count at counts₀ n₀ i₀ counts n i = (t : List Pair) → (t′ : List Pair) × Follows freq s t t′ counts₀ counts count at n i Spelling Spelling

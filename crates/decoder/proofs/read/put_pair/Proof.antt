@@ -1,8 +1,8 @@
 -- `code::read::put_pair` meets its contract.
 use native.Mathlib.Numerals.{add-one}
 use borrow.Author.Needs.{needs}
-use Rattle.code.proofs.read.put_pair.Statement.{statement}
-use Rattle.code.proofs.read.put_pair.Tie as tie
+use Rattle.decoder.proofs.read.put_pair.Statement.{statement}
+use Rattle.decoder.proofs.read.put_pair.Tie as tie
 
 mul-at : tie.Need-mul-at
 mul-at c = search needs

@@ -3,11 +3,11 @@ use mathlib.Core.Path.{sym, _∙_}
 use native.Mathlib.Omega.{arith}
 use denote.Ref.{now}
 use borrow.Author.Tests.{not-false}
 use Rattle.code.proofs.Smallest.{legal-is}
-use Rattle.code.proofs.Shorts.{quick-is}
+use Rattle.decoder.proofs.Shorts.{quick-is}
 use borrow.Author.Needs.{needs}
-use Rattle.code.proofs.quick.quick_at.Statement.{statement}
-use Rattle.code.proofs.quick.quick_at.Tie as tie
+use Rattle.decoder.proofs.quick.quick_at.Statement.{statement}
+use Rattle.decoder.proofs.quick.quick_at.Tie as tie
 
 short-at-requires : tie.Need-short-at-requires
 short-at-requires c κs = search needs

@@ -1,9 +1,9 @@
 // A whole code.
-use crate::Code;
-use crate::letters::Letters;
-use crate::next::After;
-use crate::next::Next;
 use crate::quick::Quick;
+use code::Code;
+use code::letters::Letters;
+use code::next::After;
+use code::next::Next;
 use words::Pair;
 ghost use mathlib.Core.Path.{_≡_};
 ghost use mathlib.Core.List.{List, [], _∷_};
@@ -12,11 +12,11 @@ ghost use lib.ListN.{length};
 ghost use lib.Seq.{sets};
 ghost use Rattle.words.specs.declared.Pair.{Pair};
 ghost use Rattle.words.specs.Pairs.{countsOf};
 ghost use Rattle.code.specs.Limits.{mostPairs};
 ghost use Rattle.code.specs.Letters.{lettersOf, held, Kept};
 ghost use Rattle.code.specs.declared.next.After.the-variants.{Spelling, Lettering};
 ghost use Rattle.code.specs.Read.{readCode, ReadInto};
-ghost use Rattle.code.specs.Follows.{Follows, pairsAt, lags};
+ghost use Rattle.decoder.specs.Follows.{Follows, pairsAt, lags};
 
 // How far a code is read: so many pairs, up to a place.
 pub struct Far {
@@ -47,7 +47,7 @@ fn learn_all(letters: Letters, counts: &[u16], from: usize, to: usize) -> Letter
             on: counts[at],
             off: counts[at + 1],
         };
-        known = crate::letters::learn(known, p);
+        known = code::letters::learn(known, p);
         i += 1;
     }
     known
@@ -86,7 +86,7 @@ fn letter_run(
     let mut more: usize = 0;
     while more < most {
         let b = s[at + more];
-        if !crate::next::is_letter(b) {
+        if !code::next::is_letter(b) {
             break;
         }
         let i = (b - b'A') as usize;
@@ -132,7 +132,7 @@ fn spelled_run(
 fn lags(s: &[u8], at: usize, seen: usize, count: usize) -> bool
     ensures { λ r. ⌜ r ≡ lags (now (s .entry)) at seen count ⌝ }
 {
-    if crate::next::is_letter(text::field::byte_at(s, at)) {
+    if code::next::is_letter(text::field::byte_at(s, at)) {
         seen < count
     } else {
         false
@@ -154,7 +154,7 @@ pub fn read_code(freq: u64, s: &[u8], start: usize, counts: &mut [u16; Code::MOS
             seen = count;
             continue;
         }
-        match crate::next::next_pair(freq, count, letters.count, after, s, at) {
+        match code::next::next_pair(freq, count, letters.count, after, s, at) {
             Next::End => {
                 return Code::Pairs(count);
             }

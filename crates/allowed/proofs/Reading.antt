@@ -1,7 +1,8 @@
--- text, code, request and command: what is read. An outcome of a code or a command is what it is read as, and the lent counts.
+-- text, code, decoder, request and command: what is read. An outcome of a code or a command is what it is read as, and the lent counts.
 use mathlib.Core.Path.{refl, sym, _∙_}
 use Rattle.text.proofs as text
 use Rattle.code.proofs as code
+use Rattle.decoder.proofs as decoder
 use Rattle.request.proofs as request
 use Rattle.command.proofs as command
 use Rattle.code.proofs.Smallest.{one-smallest}
@@ -68,9 +69,9 @@ code-is-letter = told _ refl (λ _ _ _ _. refl)
 pub code-next-pair : One code.next.next_pair.ended (λ _. code.next.next_pair.spec)
 code-next-pair = told _ refl (λ _ _ _ _. refl)
 
--- code::read::read_code
-pub code-read-code : One code.read.read_code.ended (λ _. code.read.read_code.spec)
-code-read-code = promised _ refl (λ _ _ _ _ _ _ p q. (p .result ∙ sym (q .result), both refl (both refl (both refl (both (p .kept ∙ sym (q .kept)) refl)))))
+-- decoder::read::read_code
+pub decoder-read-code : One decoder.read.read_code.ended (λ _. decoder.read.read_code.spec)
+decoder-read-code = promised _ refl (λ _ _ _ _ _ _ p q. (p .result ∙ sym (q .result), both refl (both refl (both refl (both (p .kept ∙ sym (q .kept)) refl)))))
 
 -- request::Place::connector
 pub request-connector : One request.Place.connector.ended (λ _. request.Place.connector.spec)

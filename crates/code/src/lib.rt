@@ -35,5 +35,3 @@ impl Code {
 pub mod letters;
 pub mod limits;
 pub mod next;
-mod quick;
-pub mod read;

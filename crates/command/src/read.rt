@@ -14,7 +14,7 @@ pub enum CommandRead {
 fn code_at(f: Fields, s: &[u8], at: usize, counts: &mut [u16; Code::MOST_COUNTS]) -> CommandRead
     ensures { λ r. ⌜ CommandInto (codeAt f (now (s .entry)) at) (now (counts .entry)) r (now (counts .exit)) ⌝ }
 {
-    match code::read::read_code(f.freq as u64, s, at, counts) {
+    match decoder::read::read_code(f.freq as u64, s, at, counts) {
         Code::Fault(number) => CommandRead::Fault(number),
         Code::Pairs(count) => {
             if 2 * count <= f.offset as usize {

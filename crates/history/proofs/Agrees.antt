@@ -28,8 +28,8 @@ use Rattle.hub.specs.declared.Hub.{Hub}
 use Rattle.hub.specs.declared.HubChange.the-variants as change
 use Rattle.hub.specs.Record.{slots, connectorAt, relayAt, withRelay, partSize, keptAt, applied}
 use Rattle.hub.specs.Line.{Outcome, deciding, leaving, changeIn, placed, connectorStep}
-use Rattle.history.proofs.Known.{Known, changedAt}
-use Rattle.history.proofs.Shown.{shown, HeldIn}
+use Rattle.shown.proofs.Known.{Known, changedAt}
+use Rattle.shown.proofs.Shown.{shown, HeldIn}
 use Rattle.history.proofs.Stepping.{Steps, StepMeans}
 
 -- ---- a list with an element for each slot

@@ -20,8 +20,8 @@ use Rattle.connector.specs.Step.{stepOf}
 use Rattle.hub.specs.declared.Hub.{Hub}
 use Rattle.hub.specs.Record.{connectorAt, relayAt, partSize, keptAt}
 use Rattle.hub.specs.Line.{leaving, connectorStep, relayStep, askedStep}
-use Rattle.history.proofs.Known.{Known, asked, changedAt, knownAfter, stateAfter, relaysAfter, replyAlone, errorLine, askSaid, requestSaid}
-use Rattle.history.proofs.Shown.{FitFor}
+use Rattle.shown.proofs.Known.{Known, asked, changedAt, knownAfter, stateAfter, relaysAfter, replyAlone, errorLine, askSaid, requestSaid}
+use Rattle.shown.proofs.Shown.{FitFor}
 use Rattle.history.proofs.Stepping.{step-means}
 use Rattle.history.proofs.Agrees.{hubOf, Stored, Means, unmoved, means-alike, connector-at, relay-at, switched-hub, put-at}
 

@@ -36,8 +36,8 @@ use Rattle.hub.specs.Calls.{readingCall, closedHub, carriersOf}
 use Rattle.hub.specs.Completions.{ordered, noCompletion, completionsOf}
 use Rattle.hub.specs.Wait.{passingAt, completed, waitedHub}
 use Rattle.history.specs.Run.{listed}
-use Rattle.history.proofs.Known.{Known, withSending, changedAt, readAs, readingSaid}
-use Rattle.history.proofs.Shown.{shown, FitFor, HeldIn, closed-shown, passed-shown, carrier-shown}
+use Rattle.shown.proofs.Known.{Known, withSending, changedAt, readAs, readingSaid}
+use Rattle.shown.proofs.Shown.{shown, FitFor, HeldIn, closed-shown, passed-shown, carrier-shown}
 use Rattle.history.proofs.Stepping.{reading-steps}
 use Rattle.history.proofs.Agrees.{each-slot, each-gathered, hubOf, Stored, Means, unmoved, means-alike, connector-at, keep-at}
 use Rattle.history.proofs.Joining.{due, completions}

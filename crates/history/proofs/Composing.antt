@@ -29,16 +29,16 @@ use Rattle.history.specs.Heard.{completionOut}
 use Rattle.history.specs.Run.{Called, called, run}
 use Rattle.history.specs.Waiting.{movedBy, Reached, reached, at, afterwards, Composes, ChangesNothing}
 use Rattle.reads.proofs.Cursor.{modeIn}
-use Rattle.history.proofs.Known.{Known, dueOf}
-use Rattle.history.proofs.Shown.{FitFor}
-use Rattle.history.proofs.Fits.{fit-after}
+use Rattle.shown.proofs.Known.{Known, dueOf}
+use Rattle.shown.proofs.Shown.{FitFor}
+use Rattle.shown.proofs.Fits.{fit-after}
 use Rattle.history.proofs.Agrees.{hubOf}
 use Rattle.history.proofs.Joining.{due, completions}
 use Rattle.history.proofs.Calling.{wait-passes, wait-completes}
 use Rattle.history.proofs.Waits.{completions-add}
-use Rattle.history.proofs.View.{view}
 use Rattle.history.proofs.Told.{completions-are}
-use Rattle.history.proofs.Logged.{logged-fit}
+use Rattle.shown.proofs.View.{view}
+use Rattle.shown.proofs.Logged.{logged-fit}
 use Rattle.history.proofs.Following.{hubAt, Keeps, follows}
 
 -- the hub of some history, with its store

@@ -29,13 +29,13 @@ use Rattle.history.specs.Heard.{answerOut}
 use Rattle.history.specs.Run.{Called, afterChange, called, run}
 use Rattle.reads.proofs.Rows.{line-is}
 use Rattle.reads.proofs.Cursor.{modeIn}
-use Rattle.history.proofs.Known.{Known, errorLine}
+use Rattle.shown.proofs.Known.{Known, errorLine}
 use Rattle.history.proofs.Agrees.{hubOf, Stored, Means, unmoved, hub-alike, stored-alike, means-alike}
 use Rattle.history.proofs.Asking.{asked-means}
 use Rattle.history.proofs.Calling.{leftBy, wait-passes, wait-completes, stored-later, closed-means, closed-stored, reading-means, carriers-shown}
-use Rattle.history.proofs.View.{view, worded, request-step, now-step, relay-step, reading-step, closing-step}
+use Rattle.shown.proofs.View.{view, worded, request-step, now-step, relay-step, reading-step, closing-step}
 use Rattle.history.proofs.Told.{request-said, reading-said, carriers-are, completions-are}
-use Rattle.history.proofs.Logged.{logged-fit}
+use Rattle.shown.proofs.Logged.{logged-fit}
 
 -- the hub that shows a log
 abbrev pub hubAt : List Deed → Hub

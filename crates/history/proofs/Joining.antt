@@ -8,7 +8,7 @@ use Rattle.meaning.specs.Log.{until}
 use Rattle.request.specs.Place.{placeOf}
 use Rattle.connector.specs.declared.Completion.{Completion}
 use Rattle.hub.specs.Completions.{inserted, ordered}
-use Rattle.history.proofs.Known.{Known, dueOf}
+use Rattle.shown.proofs.Known.{Known, dueOf}
 
 -- of one connector, in the next n microseconds
 abbrev pub due : ℕ → (ℕ → Known) → ℕ → ℕ → List Completion

@@ -1,13 +1,8 @@
-pub mod Known
-pub mod Shown
-pub mod Fits
 pub mod Stepping
 pub mod Agrees
 pub mod Asking
 pub mod Joining
 pub mod Calling
-pub mod View
-pub mod Logged
 pub mod Told
 pub mod Following
 pub mod Waits

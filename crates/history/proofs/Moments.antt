@@ -9,8 +9,8 @@ use Rattle.meaning.specs.Log.{now, lastOf}
 use Rattle.meaning.specs.Table.{Call, logOf}
 use Rattle.waveform.specs.Paced.{Fit}
 use Rattle.waveform.proofs.Meaning.{finish-first, begun-copies, begun-boundary}
-use Rattle.history.proofs.Shown.{FitFor}
-use Rattle.history.proofs.Logged.{logged-fit}
+use Rattle.shown.proofs.Shown.{FitFor}
+use Rattle.shown.proofs.Logged.{logged-fit}
 
 module _ (h : List Call) (port : ℕ) (s : Transmission) (e : lastOf port (logOf h) ≡ some s) where
   -- it is one of an accepted command

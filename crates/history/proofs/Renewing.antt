@@ -14,9 +14,9 @@ use Rattle.meaning.specs.Table.{deedsOf, Call, judge, logOf}
 use Rattle.waveform.specs.Paced.{Fit}
 use Rattle.waveform.proofs.Paced.{renewed-runs}
 use Rattle.history.specs.Copies.{spares, CopiesBy, at-start, at-renewal}
-use Rattle.history.proofs.Shown.{FitFor}
-use Rattle.history.proofs.View.{until-some}
-use Rattle.history.proofs.Logged.{logged-fit}
+use Rattle.shown.proofs.Shown.{FitFor}
+use Rattle.shown.proofs.View.{until-some}
+use Rattle.shown.proofs.Logged.{logged-fit}
 
 -- ---- its copies
 

@@ -43,8 +43,8 @@ use Rattle.connector.specs.Reading.{readingStep}
 use Rattle.connector.specs.Step as step
 use Rattle.connector.specs.Step.{Made, stepping, keeping, byVerdict, commandStep, commandRead, sendStep, stepOf}
 use Rattle.hub.specs.Record.{partSize}
-use Rattle.history.proofs.Known.{Known, transmits, withSending, withMode, sameCommand, commanded, sentTo, asked, replyAlone, errorLine, contactSaid, commandSaid, sendirSaid, told, askSaid, withReading, readAs, readingSaid}
-use Rattle.history.proofs.Shown.{shown, FitFor, HeldIn, fit-on-air, mode-shown, sensor-shown, contact-shown, running-shown, with-mode-shown, with-reading-shown, stopped-shown, told-shown, started-shown, renewed-shown, verdictOn, verdict-shown}
+use Rattle.shown.proofs.Known.{Known, transmits, withSending, withMode, sameCommand, commanded, sentTo, asked, replyAlone, errorLine, contactSaid, commandSaid, sendirSaid, told, askSaid, withReading, readAs, readingSaid}
+use Rattle.shown.proofs.Shown.{shown, FitFor, HeldIn, fit-on-air, mode-shown, sensor-shown, contact-shown, running-shown, with-mode-shown, with-reading-shown, stopped-shown, told-shown, started-shown, renewed-shown, verdictOn, verdict-shown}
 
 -- a step of a connector that was known as x: its answer, and that it shows y then
 pub record Steps (t : ℕ) (a : Answer) (x y : Known) (s : Stepped) : Type 0 where

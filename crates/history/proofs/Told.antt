@@ -7,7 +7,6 @@ use mathlib.Core.Option.{Option, none, some, Option·getD}
 use native.Mathlib.Omega.{arith}
 use borrow.Author.Tests.{le-ltb, lt-ltb, ltb-true, ltb-false}
 use lib.Dec.{ltb}
-use lib.ListN.{length}
 use Rattle.laws.specs.Bytes.{bytes}
 use Rattle.laws.specs.Checks.{between, holds, isSome}
 use Rattle.laws.specs.Lists.{gathered}
@@ -46,13 +45,13 @@ use Rattle.connector.specs.Change.{owns}
 use Rattle.connector.specs.Step.{alsoTold}
 use Rattle.hub.specs.Completions.{inserted, ordered}
 use Rattle.reads.specs.Meant.{meantCommand, meantRead, meantFixed, meantAsk, meantTurn, meant}
-use Rattle.reads.proofs.Cursor.{modeIn}
+use Rattle.reads.proofs.Cursor.{modeIn, sensor-is}
 use Rattle.history.specs.Heard.{ownerOut, completionOut, answerOut}
-use Rattle.history.proofs.Known as known
-use Rattle.history.proofs.Known.{contactSaid, commandSaid, sendirSaid, told, askSaid, requestSaid}
+use Rattle.shown.proofs.Known as known
+use Rattle.shown.proofs.Known.{contactSaid, commandSaid, sendirSaid, told, askSaid, requestSaid}
 use Rattle.history.proofs.Joining.{due, completions}
 use Rattle.history.proofs.Calling.{readingCallSaid}
-use Rattle.history.proofs.View.{ownerIn, contactIn, view, Worded, sensor-is, owner-is, bit-is}
+use Rattle.shown.proofs.View.{ownerIn, contactIn, view, Worded, owner-is, bit-is}
 
 -- an owner told and heard is the same
 owner-back : (o : Option ℕ) → ownerOut (ownerIn o) ≡ o

@@ -21,8 +21,8 @@ use Rattle.connector.specs.declared.Completion.{Completion}
 use Rattle.hub.specs.Completions.{inserted, ordered}
 use Rattle.pace.specs.Pace.{micros}
 use Rattle.history.specs.Waiting.{movedBy}
-use Rattle.history.proofs.Known.{Known, dueOf}
-use Rattle.history.proofs.Shown.{FitFor}
+use Rattle.shown.proofs.Known.{Known, dueOf}
+use Rattle.shown.proofs.Shown.{FitFor}
 use Rattle.history.proofs.Joining.{due, completions, ordered-append}
 
 -- ---- completions up to a moment, and behind it

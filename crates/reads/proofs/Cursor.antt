@@ -15,7 +15,7 @@ use Rattle.laws.proofs.Choice.{by-test, not-both, and-left, and-false, between-
 use Rattle.laws.proofs.Lists.{stands-at, stands-below, stands-behind, stands-end, same-is, none-is}
 use Rattle.laws.proofs.Cutting.{upTo, from, count, split, Ending, ends, goes, ending, behind-next, part-is, parts-are, count-behind, upTo-all, behind-all, count-all, endsPart, whole-part, leading-part, leading-passes, leading-split, leading-end, all-broken}
 use Rattle.words.specs.Digits.{isDigit, worth}
-use Rattle.meaning.specs.Line.{isNumber, within, isAddress}
+use Rattle.meaning.specs.Line.{is, isNumber, within, isAddress}
 use Rattle.text.specs.declared.number.Number.{Number}
 use Rattle.text.specs.declared.number.Number.the-variants.{Missing, TooLong, Value}
 use Rattle.text.specs.declared.field.Field.the-variants.{Bad, Good}
@@ -29,7 +29,7 @@ use Rattle.request.specs.declared.mode.Mode.the-variants.{Ir, Sensor, IrBlaster
 use Rattle.request.specs.declared.mode.ModeRead.the-variants as mode
 use Rattle.request.specs.Place.{placeOf}
 use Rattle.request.specs.Address.{beyond, partOf, partAt, portRead, portAt, moduleRead, addressAt}
-use Rattle.request.specs.Mode.{modeAt, modeWord}
+use Rattle.request.specs.Mode.{modeAt, modeWord, isSensor}
 
 -- ---- words
 
@@ -64,6 +64,14 @@ word-back f =
     by-test (same (bytes "IR") f) (λ e. rw e (λ _. same-is (bytes "IR") f e)) λ e. rw e
     (by-test (same (bytes "SENSOR") f) (λ g. rw g (λ _. same-is (bytes "SENSOR") f g)) λ g. rw g
     (λ h. same-is (bytes "IR_BLASTER") f h))
+
+-- the word is SENSOR where the mode is
+pub sensor-is : (w : List ℕ) → is "SENSOR" w ≡ isSensor (modeIn w)
+unfolding modeIn
+sensor-is w =
+    by-test (is "IR" w)
+    (λ e. rw (e, ← same-is (bytes "IR") w e))
+    λ e. rw e (by-test (is "SENSOR" w) (λ f. rw f) (λ f. rw f))
 
 -- ---- numbers
 

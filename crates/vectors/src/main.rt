@@ -47,7 +47,7 @@ fn same_read(a: Code, b: Code) -> bool {
 // A code's text, at 40000 Hz.
 fn code_vector(label: &[u8], text: &[u8], expected: Code) {
     let mut counts = [0u16; Code::MOST_COUNTS];
-    let got = code::read::read_code(40000, text, 0, &mut counts);
+    let got = decoder::read::read_code(40000, text, 0, &mut counts);
     say::text(b"code ");
     say::text(label);
     say::text(b": expected ");

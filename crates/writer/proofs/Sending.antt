@@ -13,7 +13,7 @@ use Rattle.words.specs.declared.Pair.{Pair}
 use Rattle.words.specs.declared.Fields.{Fields}
 use Rattle.words.specs.Pairs.{pairsOf, countsIn}
 use Rattle.words.proofs.Standing.{pairs-back}
-use Rattle.code.specs.Follows.{pairsAt}
+use Rattle.decoder.specs.Follows.{pairsAt}
 use Rattle.command.specs.declared.given.Command.{Command}
 use Rattle.command.specs.declared.read.CommandRead.the-variants.{Fault, Sent}
 use Rattle.command.specs.Read.{foundIn, CommandInto}

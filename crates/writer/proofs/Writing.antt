@@ -16,10 +16,10 @@ use Rattle.code.specs.declared.next.After.{After}
 use Rattle.code.specs.declared.next.After.the-variants.{Nothing, Spelling, Lettering}
 use Rattle.words.specs.Pairs.{pair}
 use Rattle.code.specs.Letters.{noLetters, placeOf, learnt, held, Kept}
-use Rattle.code.specs.Follows.{pairsAt}
+use Rattle.decoder.specs.Follows.{pairsAt}
 use Rattle.lettered.specs.Lettered.{Item, letter, itemText}
 use Rattle.code.proofs.Lettering.{learnt-known}
-use Rattle.code.proofs.Follows.{pairs-next}
+use Rattle.decoder.proofs.Follows.{pairs-next}
 use Rattle.lettered.proofs.Written.{afterOf, front, front-letter, textFrom, text-from}
 use Rattle.writer.specs.declared.Form.{Form}
 use Rattle.writer.specs.declared.Form.the-variants.{Plain, Lettered}

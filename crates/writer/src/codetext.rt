@@ -11,7 +11,7 @@ ghost use lib.ListN.{length};
 ghost use Rattle.laws.specs.Put.{Put};
 ghost use Rattle.words.specs.Pairs.{pair};
 ghost use Rattle.code.specs.Limits.{mostPairs};
-ghost use Rattle.code.specs.Follows.{pairsAt};
+ghost use Rattle.decoder.specs.Follows.{pairsAt};
 ghost use Rattle.writer.specs.CodeText.{inUse, comma, spelling, codeText};
 
 // Of so many letters, those that the form uses.

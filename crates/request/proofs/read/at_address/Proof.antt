@@ -46,19 +46,19 @@ alone-requires-2 : tie.Need-alone-requires-2
 alone-requires-2 c κs = search needs
 
 returns : tie.Need-returns
-returns c = rw (c .before .before .enum-told .given .1) (cc)
+returns c = rw (c .before .before .enum-told .given .1, ← (c .before .after-comma .ensures)) (c .set-ir-at .ensures)
 
 returns-2 : tie.Need-returns-2
 returns-2 c = rw (c .before .enum-told2 .given .1) (c .alone .ensures)
 
 returns-3 : tie.Need-returns-3
-returns-3 c = rw (c .before .before .enum-told3 .given .1) (cc)
+returns-3 c = rw (c .before .before .enum-told3 .given .1, ← (c .before .after-comma2 .ensures)) (c .set-state-at .ensures)
 
 returns-4 : tie.Need-returns-4
 returns-4 c = rw (c .before .enum-told4 .given .1) (c .get-state-at .ensures)
 
 returns-5 : tie.Need-returns-5
-returns-5 c = rw (c .before .enum-told5 .given .1) (cc)
+returns-5 c = rw (c .before .enum-told5 .given .1, ← (c .after-comma3 .ensures))
 
 returns-6 : tie.Need-returns-6
 returns-6 c = rw (c .before .enum-told6 .given .1) (c .alone2 .ensures)

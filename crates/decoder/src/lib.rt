@@ -1,0 +1,3 @@
+// A code's text read into counts.
+mod quick;
+pub mod read;

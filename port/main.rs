@@ -22,7 +22,7 @@ use options::Options;
 use program::Program;
 use record::Record;
 use server::{Event, Server};
-use std::net::{TcpListener, TcpStream};
+use std::net::{SocketAddr, TcpListener, TcpStream};
 use std::process::ExitCode;
 use std::sync::mpsc::{sync_channel, SyncSender};
 use std::thread::{self, JoinHandle};
@@ -45,7 +45,7 @@ fn serve() -> Result<(), String> {
     let options = Options::of(std::env::args().skip(1))?;
     // before there is any thread, so that each of them leaves the signals to the one that waits for them
     let signals = system::Signals::blocked().map_err(|error| format!("signals: {error}"))?;
-    let listener = listen(&options.address)?;
+    let (listener, at) = listen(&options.address)?;
     let recorded = Record::both(options.record.as_deref())?;
     let program = Program::start(&options.program)?;
     let (events, coming) = sync_channel(EVENTS);
@@ -56,14 +56,15 @@ fn serve() -> Result<(), String> {
     let read = events.clone();
     spawn("readings", move || readings::read(|event| read.send(event).is_ok()))?;
     spawn("accepting", move || accept(&listener, &events))?;
+    display::say(&format!("Umbrefall's hub listens at {at}; `r 2 0` here is a contact reading, Ctrl-C ends it\n"));
     server.run()
 }
 
-fn listen(address: &str) -> Result<TcpListener, String> {
+/// Listens at an address; what is answered beside it names the port that was given.
+fn listen(address: &str) -> Result<(TcpListener, SocketAddr), String> {
     let listener = TcpListener::bind(address).map_err(|error| format!("{address}: {error}"))?;
     let at = listener.local_addr().map_err(|error| format!("{address}: {error}"))?;
-    display::say(&format!("Umbrefall's hub listens at {at}; `r 2 0` here is a contact reading, Ctrl-C ends it\n"));
-    Ok(listener)
+    Ok((listener, at))
 }
 
 /// Hands on each connection. Where one cannot be had (too many files are open, say) it tries again a little later.

@@ -1,6 +1,6 @@
 //! A script of the bench as frames for the port: its lines cut into pieces with other connections' pieces in between,
-//! the carriers asked for after each call, and frames of other forms among them. The lines end in the script's order, so
-//! the moments that a script aims at are met here too.
+//! the carriers asked for after each call, and frames of other forms among them. The lines end in the script's order,
+//! so the moments that a script aims at are met here too.
 
 use super::random::Random;
 use std::ops::Range;

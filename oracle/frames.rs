@@ -2,7 +2,7 @@
 //! programs, the oracle's port and another (given by the words of its command), and compares what they answer byte for
 //! byte. It prints a table of what the answers reached, and fails where something was not reached or the two differ.
 //! frames notice FIRST COUNT LINES ORACLE PROGRAM..: prints the first seed that shows a difference; fails if none does.
-//! frames answers ORACLE PROGRAM.. <EVENTS: the same comparison on frames that were recorded.
+//! frames recorded FILE ORACLE: compares a recording of the socket: FILE was given to a program, FILE.out came back.
 //! frames show SEED LINES: writes the frames of a seed.
 
 #[path = "events.rs"]
@@ -15,7 +15,7 @@ mod random;
 mod scripts;
 
 use std::collections::BTreeMap;
-use std::io::{self, Read, Write};
+use std::io::{self, Write};
 use std::ops::Range;
 use std::process::{exit, Command, Stdio};
 use std::sync::atomic::{AtomicU64, Ordering};
@@ -233,15 +233,18 @@ fn notice(programs: &Programs, seeds: &Seeds) -> bool {
     difference.is_some()
 }
 
-fn compare_recorded(programs: &Programs) -> bool {
-    let mut frames = Vec::new();
-    if let Err(error) = io::stdin().read_to_end(&mut frames) {
-        fail(&error.to_string());
-    }
-    let compared = programs.compare(&frames, &[0..frames.len()]);
-    println!("frames: {} answers to {} bytes of events", split(&compared.right).len(), frames.len());
-    report(&compared);
-    compared.other.is_none() && !compared.right.is_empty()
+fn recorded(words: &[String]) -> bool {
+    let [file, oracle] = words else {
+        fail("two words are needed: FILE ORACLE");
+    };
+    let read = |file: &str| std::fs::read(file).unwrap_or_else(|error| fail(&format!("{file}: {error}")));
+    let (frames, came_back) = (read(file), read(&format!("{file}.out")));
+    let right = answers(&[oracle.clone()], &frames, &[0..frames.len()]);
+    println!("frames: {} answers to {} recorded frames", split(&right).len(), split(&frames).len());
+    let other = Some(came_back).filter(|other| *other != right);
+    let passed = other.is_none() && !right.is_empty();
+    report(&Compared { right, other });
+    passed
 }
 
 fn show(words: &[String]) -> bool {
@@ -255,14 +258,14 @@ fn show(words: &[String]) -> bool {
 
 fn main() {
     let words: Vec<String> = std::env::args().skip(1).collect();
-    let (name, rest) = words.split_first().unwrap_or_else(|| fail("check, notice, answers or show"));
+    let (name, rest) = words.split_first().unwrap_or_else(|| fail("check, notice, recorded or show"));
     let programs = || Programs::of(rest.get(3..).unwrap_or(&[]));
     let passed = match name.as_str() {
         "check" => check(&programs(), &Seeds::of(rest)),
         "notice" => notice(&programs(), &Seeds::of(rest)),
-        "answers" => compare_recorded(&Programs::of(rest)),
+        "recorded" => recorded(rest),
         "show" => show(rest),
-        other => fail(&format!("{other}: check, notice, answers or show")),
+        other => fail(&format!("{other}: check, notice, recorded or show")),
     };
     exit(i32::from(!passed));
 }

@@ -1,8 +1,10 @@
 //! A script of the bench as frames for the port: its lines cut into pieces with other connections' pieces in between,
 //! the carriers asked for after each call, and frames of other forms among them. The lines end in the script's order,
-//! so the moments that a script aims at are met here too.
+//! so the moments that a script aims at are met here too. A wait may be told in parts, which end where a carrier goes
+//! on or off; to find these, the oracle's hub runs beside what is written.
 
 use super::random::Random;
+use super::scripts::hub::{Hub, Periods};
 use std::ops::Range;
 
 const CR: u8 = b'\r';
@@ -55,6 +57,7 @@ impl Call {
 
 struct Frames {
     random: Random,
+    hub: Hub,
     calls: Vec<Call>,
     /// The calls before this one are written.
     place: usize,
@@ -152,13 +155,56 @@ impl Frames {
                 self.frame(b'x', *connection, b"");
             }
             Call::Reading(port, value) => self.frame(b'r', *port, &[*value]),
-            Call::Wait(microseconds) => {
-                let connection = self.random.pick(&[0, 0, 1, 9, 255]);
-                self.frame(b'w', connection, &microseconds.to_be_bytes());
-            }
+            Call::Wait(microseconds) => self.wait(*microseconds),
             Call::AnotherForm => self.another_form(),
         }
     }
+
+    /// The same call for the hub beside; waits have passed there.
+    fn follow(&mut self, call: &Call) {
+        match call {
+            Call::Line(connection, line) => drop(self.hub.line(u64::from(*connection), line)),
+            Call::Close(connection) => drop(self.hub.close(u64::from(*connection))),
+            Call::Reading(port, value) => drop(self.hub.read_contact(u64::from(*port), u64::from(*value))),
+            Call::Wait(_) | Call::AnotherForm => (),
+        }
+    }
+
+    // ---- Time
+
+    fn pass(&mut self, microseconds: u32) {
+        let connection = self.random.pick(&[0, 0, 1, 9, 255]);
+        self.frame(b'w', connection, &microseconds.to_be_bytes());
+        self.hub.wait(u64::from(microseconds));
+    }
+
+    fn wait(&mut self, microseconds: u32) {
+        let mut left = microseconds;
+        for _ in 0..self.random.pick(&[0, 1, 2, 4]) {
+            if let Some(part) = self.edge().filter(|part| *part < left) {
+                self.pass(part);
+                self.ask();
+                left -= part;
+            }
+        }
+        self.pass(left);
+    }
+
+    /// How long it is to some end of an on or off count that is being transmitted, or to a microsecond before or after.
+    fn edge(&mut self) -> Option<u32> {
+        let port = self.random.between(1, 3);
+        let sending = self.hub.connector(port).sending()?;
+        let done = sending.done_at(self.hub.now);
+        let begun = sending.copies.iter().filter(|copy| done.reaches(copy.begins)).count().checked_sub(1)?;
+        let copy = &sending.copies[begun..][self.random.pick(&[0, 0, 1]).min(sending.copies.len() - begun - 1)];
+        let counts = self.random.between(1, copy.counts.len() as u64) as usize;
+        let place = Periods(copy.begins.0 + copy.counts[..counts].iter().map(|count| u128::from(*count)).sum::<u128>());
+        let moment = sending.first_moment_at(place).0 + self.random.pick(&[0, 1, 1, 2]);
+        let after = moment.checked_sub(self.hub.now.0 + 1)?;
+        u32::try_from(after).ok()
+    }
+
+    // ---- The whole
 
     fn ask(&mut self) {
         let connection = self.random.pick(&[0, 0, 3, 255]);
@@ -176,6 +222,7 @@ impl Frames {
             let call = std::mem::replace(&mut self.calls[self.place], Call::AnotherForm);
             self.place += 1;
             self.call(&call);
+            self.follow(&call);
             self.ask();
             if self.random.one_in(12) {
                 self.another_form();
@@ -187,7 +234,8 @@ impl Frames {
 /// The frames of a script. Every third ends within a frame.
 pub fn frames(seed: u64, script: &[u8]) -> Vec<u8> {
     let calls = script.split(|byte| *byte == b'\n').map(Call::of).collect();
-    let mut frames = Frames { random: Random(seed), calls, place: 0, ahead: [0; CONNECTIONS], bytes: Vec::new() };
+    let (random, hub, bytes) = (Random(seed), Hub::fresh(), Vec::new());
+    let mut frames = Frames { random, hub, calls, place: 0, ahead: [0; CONNECTIONS], bytes };
     frames.write_out();
     if seed % 3 == 0 {
         frames.frame(b'b', 0, b"getversion\rgetdevices\rgetstate,2:1\rgetv");

@@ -1,4 +1,5 @@
 """A served hub and its clients, for the tests and the load."""
+import os
 import random
 import signal
 import socket
@@ -6,6 +7,7 @@ import struct
 import subprocess
 import threading
 import time
+from pathlib import Path
 
 PATIENCE = 60  # seconds after which something that should come does not
 
@@ -32,9 +34,10 @@ class Server:
 
     def __init__(self, words, record=None):
         options = ["--record", str(record)] if record else []
+        self.words = words
         self.process = subprocess.Popen(
             [words[0], "127.0.0.1:0", *options, "--program", *words[1:]],
-            stdin=subprocess.PIPE, stdout=subprocess.PIPE, stderr=subprocess.PIPE,
+            stdin=subprocess.PIPE, stdout=subprocess.PIPE, stderr=subprocess.PIPE, start_new_session=True,
         )
         self.shown, self.complaints = [], []
         start = self.process.stdout.readline().decode()
@@ -53,14 +56,26 @@ class Server:
         self.process.stdin.write(line.encode() + b"\n")
         self.process.stdin.flush()
 
+    def program(self):
+        """The process of the program behind it."""
+        return int(Path(f"/proc/{self.process.pid}/task/{self.process.pid}/children").read_text().split()[0])
+
+    def interrupt(self):
+        """Ctrl-C: a signal to its whole process group."""
+        os.killpg(self.process.pid, signal.SIGINT)
+        return self.status()
+
     def end(self):
         """Ends it by SIGTERM; its status."""
         self.process.send_signal(signal.SIGTERM)
+        return self.status()
+
+    def status(self):
         try:
             return self.process.wait(PATIENCE)
         except subprocess.TimeoutExpired:
             self.process.kill()
-            raise Failed("SIGTERM did not end it") from None
+            raise Failed("a signal did not end it") from None
 
 
 class Client:

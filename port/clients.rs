@@ -268,7 +268,8 @@ fn start(stream: TcpStream, connection: u8, events: SyncSender<Event>) -> Result
     let prepared = stream
         .set_nodelay(true)
         .and_then(|()| stream.set_write_timeout(Some(WRITE_TIMEOUT)))
-        .and_then(|()| system::limit_send_buffer(&stream, SEND_BUFFER));
+        .and_then(|()| system::limit_send_buffer(&stream, SEND_BUFFER))
+        .and_then(|()| system::notice_silent_ends(&stream));
     prepared.map_err(|error| error.to_string())?;
     let client = Arc::new(Client::of(stream));
     let (writer, reader) = (client.clone(), client.clone());

@@ -115,3 +115,33 @@ pub fn say(line: &str) {
 pub fn complain(why: &str) {
     let _ = io::stderr().write_all(format!("port: {why}\n").as_bytes());
 }
+
+#[cfg(test)]
+mod tests {
+    use super::*;
+
+    #[test]
+    fn only_changes_are_shown() {
+        let mut memory = Memory::default();
+        assert_eq!(memory.relay(4, 2, 0), None);
+        assert_eq!(memory.relay(4, 2, 1).as_deref(), Some("relay 2:2 closed by 4"));
+        assert_eq!(memory.relay(5, 2, 1), None);
+        assert_eq!(memory.connector(0, 1, 0, None), None);
+        assert_eq!(memory.connector(0, 3, 1, None).as_deref(), Some("mode 1:3 SENSOR by 0"));
+        assert_eq!(memory.connector(0, 3, 1, None), None);
+        assert_eq!(memory.relay(0, 0, 1), None);
+        assert_eq!(memory.relay(0, 4, 1), None);
+    }
+
+    #[test]
+    fn a_transmission_is_shown_from_its_start_to_its_end() {
+        let mut memory = Memory::default();
+        assert_eq!(memory.connector(1, 1, 0, Some(7)).as_deref(), Some("1:1 transmits 7 for 1"));
+        assert_eq!(memory.connector(1, 1, 0, Some(7)).as_deref(), Some("1:1 renewed"));
+        assert_eq!(memory.connector(1, 1, 0, Some(8)).as_deref(), Some("1:1 transmits 8 for 1 in the place of 7"));
+        assert_eq!(memory.completion(b"completeir,1:1,8\r").as_deref(), Some("1:1 complete"));
+        assert_eq!(memory.connector(2, 1, 0, None), None);
+        assert_eq!(memory.connector(1, 1, 0, Some(8)).as_deref(), Some("1:1 transmits 8 for 1"));
+        assert_eq!(memory.connector(2, 1, 0, None).as_deref(), Some("1:1 halted by 2"));
+    }
+}

@@ -27,6 +27,7 @@ impl Frame {
     pub fn read(from: &mut impl Read) -> io::Result<Option<Frame>> {
         let mut head = [0; 4];
         match from.read_exact(&mut head) {
+            // a frame that the program did not finish was not said
             Err(error) if error.kind() == ErrorKind::UnexpectedEof => return Ok(None),
             other => other?,
         }
@@ -75,4 +76,43 @@ pub enum Answer<'a> {
     Carriers,
     Due(Option<u64>),
     Refusal { of: u8, number: u16 },
+}
+
+#[cfg(test)]
+mod tests {
+    use super::*;
+
+    fn read(bytes: &[u8]) -> Frame {
+        Frame::read(&mut &bytes[..]).ok().flatten().unwrap_or(Frame { kind: 0, connection: 0, bytes: Vec::new() })
+    }
+
+    #[test]
+    fn frames_are_written_as_the_page_says() {
+        let mut frames = Vec::new();
+        put(&mut frames, b'w', 0, &51_250_u32.to_be_bytes());
+        put(&mut frames, b'b', 7, &[b'x'; 300]);
+        assert_eq!(frames[..12], [b'w', 0, 0, 4, 0, 0, 200, 50, b'b', 7, 1, 44]);
+        assert_eq!(frames.len(), 12 + 300);
+    }
+
+    #[test]
+    fn answers_are_read_as_the_page_says() {
+        let completion = read(b"f\xff\x00\x15\x00\x00\xc82completeir,1:1,7\r");
+        let expected = b"completeir,1:1,7\r";
+        assert!(matches!(completion.answer(),
+            Some(Answer::Completion { to: None, after: 51_250, text }) if text == expected));
+        let halted = read(b"s\x02\x00\x06\x01\x03\x02\x00\x00\x00");
+        assert!(matches!(halted.answer(), Some(Answer::Connector { by: 2, port: 3, mode: 2, id: None })));
+        let sent = read(b"s\x02\x00\x06\x01\x03\x00\x01\x01\x02");
+        assert!(matches!(sent.answer(), Some(Answer::Connector { id: Some(258), .. })));
+        assert!(matches!(read(b"d\x00\x00\x00").answer(), Some(Answer::Due(None))));
+        assert!(matches!(read(b"!\x02\x00\x02\x00\x68").answer(), Some(Answer::Refusal { of: 2, number: 104 })));
+        assert!(read(b"s\x00\x00\x01\x01").answer().is_none());
+    }
+
+    #[test]
+    fn an_output_may_end_between_frames_alone() {
+        assert!(matches!(Frame::read(&mut &b""[..]), Ok(None)));
+        assert!(Frame::read(&mut &b"b\x00\x00\x05abc"[..]).is_err());
+    }
 }

@@ -167,8 +167,9 @@ impl Server {
 
     /// Puts the waits up to the present moment; one that is longer than a wait may be is told in parts.
     fn put_waits(&mut self, batch: &mut Batch) {
+        let now = self.clock.now();
         loop {
-            let (wait, reached) = self.clock.next_wait();
+            let (wait, reached) = self.clock.next_wait(now);
             if wait.microseconds() > 0 {
                 put(&mut batch.frames, b'w', 0, &(wait.microseconds() as u32).to_be_bytes());
             }

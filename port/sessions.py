@@ -82,7 +82,7 @@ class Sessions:
         expect(not owner.unasked() and not other.unasked(), "more was said than there was to say")
 
     def completing(self):
-        """Three transmissions of different lengths, each complete in its time and told to its own client."""
+        """Three transmissions of different lengths, each complete in its time and told to its own client; short ones."""
         lengths = {1: 12, 2: 4, 3: 8}  # so many times 2 x 50,000 periods of 2 us
         clients = {port: self.client() for port in lengths}
         clients[2].ask("set_IR,1:2,IR", "IR,1:2,IR")
@@ -92,6 +92,9 @@ class Sessions:
             clients[port].send(f"sendir,1:{port},{port},500000,{lengths[port]},1,50000,50000\r".encode())
             clients[port].expect(f"completeir,1:{port},{port}\r".encode())
             took.append((port, time.monotonic() - start))
+            for _ in range(20):
+                clients[port].send(f"sendir,1:{port},{port},500000,1,1,1000,1500\r".encode())
+                clients[port].expect(f"completeir,1:{port},{port}\r".encode())
 
         took = []
         in_threads([lambda port=port: transmit(port) for port in lengths])
@@ -233,9 +236,29 @@ class Sessions:
         seen = self.server.shown[-len(right):]
         expect([line.split(" ", 1)[1] for line in seen] == right, f"the technician sees {seen}")
 
+    def taken(self):
+        """A port that is taken is an error, with status 1 and a line that says so."""
+        socket, *program = self.server.words
+        command = [socket, "%s:%d" % self.server.address, "--program", *program]
+        second = subprocess.run(command, stdin=subprocess.DEVNULL, capture_output=True, timeout=PATIENCE, check=False)
+        expect(second.returncode == 1, f"its status is {second.returncode}")
+        expect(b"Address already in use" in second.stderr and not second.stdout, f"it says {second.stderr!r}")
+
+    def interrupted(self):
+        """Ctrl-C ends it with status 0, its clients closed and the program ended; the end of its input did not."""
+        server = Server(self.server.words)
+        server.process.stdin.close()
+        program = server.program()
+        client = Client(server)
+        client.send(LONG.encode() + b"\rgetver")
+        expect(server.interrupt() == 0, f"its status is {server.process.returncode}: {server.complaints}")
+        client.wait_for_end()
+        expect(not Path(f"/proc/{program}").exists(), "the program is still there")
+
     def all(self):
         for session in (self.readme, self.readings, self.stopping, self.completing, self.inheriting, self.ninth,
-                        self.endless, self.silent, self.killed, self.netcat, self.showing, self.crowd):
+                        self.endless, self.silent, self.killed, self.netcat, self.showing, self.taken, self.interrupted,
+                        self.crowd):
             try:
                 session()
             except Failed as why:
@@ -271,7 +294,7 @@ def check(sessions, record):
         numbers = recording.of(first).connection, recording.of(heir).connection
         expect(numbers[0] == numbers[1], f"the numbers of a client and the next are {numbers}")
     late = sorted(recording.lateness)
-    expect(len(late) > 3, "no completion was waited for")
+    expect(len(late) > 50, f"only {len(late)} completions were waited for")
     print(f"sessions: {len(sessions.whole)} clients, {recording.count} events; eight at once {sessions.rate:.0f} "
           f"requests/s; {len(late)} completions waited for, half of them at most {late[len(late) // 2]} us late, all "
           f"at most {late[-1]}")

@@ -1,4 +1,4 @@
-//! What the standard library does not have of Linux: waiting for signals, and the size of a socket's send buffer.
+//! What the standard library does not have of Linux: waiting for signals, and some settings of a socket.
 
 use std::ffi::{c_int, c_void};
 use std::io;
@@ -11,6 +11,11 @@ const SIGINT: c_int = 2;
 const SIGTERM: c_int = 15;
 const SOL_SOCKET: c_int = 1;
 const SO_SNDBUF: c_int = 7;
+const SO_KEEPALIVE: c_int = 9;
+const IPPROTO_TCP: c_int = 6;
+const TCP_KEEPIDLE: c_int = 4;
+const TCP_KEEPINTVL: c_int = 5;
+const TCP_KEEPCNT: c_int = 6;
 
 /// 128 bytes, as Linux's C libraries have it.
 #[repr(C)]
@@ -61,9 +66,22 @@ impl Signals {
 
 /// Lets the system keep about so many bytes that are written and not yet received.
 pub fn limit_send_buffer(stream: &TcpStream, bytes: c_int) -> io::Result<()> {
-    let value = (&bytes as *const c_int).cast::<c_void>();
+    set(stream, SOL_SOCKET, SO_SNDBUF, bytes)
+}
+
+/// Lets the system ask after a client that has said nothing for a minute: one that is gone without a farewell, its
+/// machine switched off, say, is then closed within another minute.
+pub fn notice_silent_ends(stream: &TcpStream) -> io::Result<()> {
+    set(stream, SOL_SOCKET, SO_KEEPALIVE, 1)?;
+    set(stream, IPPROTO_TCP, TCP_KEEPIDLE, 60)?;
+    set(stream, IPPROTO_TCP, TCP_KEEPINTVL, 15)?;
+    set(stream, IPPROTO_TCP, TCP_KEEPCNT, 4)
+}
+
+fn set(stream: &TcpStream, level: c_int, name: c_int, value: c_int) -> io::Result<()> {
+    let place = (&value as *const c_int).cast::<c_void>();
     // SAFETY: the value lives while it runs, and its size is given.
-    let result = unsafe { setsockopt(stream.as_raw_fd(), SOL_SOCKET, SO_SNDBUF, value, size_of::<c_int>() as u32) };
+    let result = unsafe { setsockopt(stream.as_raw_fd(), level, name, place, size_of::<c_int>() as u32) };
     if result == 0 {
         Ok(())
     } else {

@@ -231,14 +231,15 @@ impl Frames {
     }
 }
 
-/// The frames of a script. Every third ends within a frame.
+/// The frames of a script. Every third ends within a frame, of several lines or of another form.
 pub fn frames(seed: u64, script: &[u8]) -> Vec<u8> {
     let calls = script.split(|byte| *byte == b'\n').map(Call::of).collect();
     let (random, hub, bytes) = (Random(seed), Hub::fresh(), Vec::new());
     let mut frames = Frames { random, hub, calls, place: 0, ahead: [0; CONNECTIONS], bytes };
     frames.write_out();
     if seed % 3 == 0 {
-        frames.frame(b'b', 0, b"getversion\rgetdevices\rgetstate,2:1\rgetv");
+        let kind = if seed % 2 == 0 { b'b' } else { b'q' };
+        frames.frame(kind, 0, b"getversion\rgetdevices\rgetstate,2:1\rgetv");
         let left_out = frames.random.between(1, 43) as usize;
         frames.bytes.truncate(frames.bytes.len() - left_out);
     }

@@ -83,11 +83,23 @@ struct Port {
     read: VecDeque<u8>,
     /// The connection of the piece in hand, and how many of its bytes are still to come.
     piece: (u8, usize),
+    /// How many bytes are still to be passed over.
+    over: usize,
+}
+
+/// How many bytes frames of a kind have, other than pieces.
+fn bytes_of(kind: u8) -> Option<usize> {
+    match kind {
+        b'x' | b'c' | b'd' => Some(0),
+        b'r' => Some(1),
+        b'w' => Some(4),
+        _ => None,
+    }
 }
 
 impl Port {
     fn fresh() -> Port {
-        Port { hub: Hub::fresh(), unfinished: Default::default(), read: VecDeque::new(), piece: (0, 0) }
+        Port { hub: Hub::fresh(), unfinished: Default::default(), read: VecDeque::new(), piece: (0, 0), over: 0 }
     }
 
     fn take(&mut self, number: usize) -> Vec<u8> {
@@ -106,6 +118,9 @@ impl Port {
 
     /// The answer to what comes next: "a piece's bytes are served as they come, all other frames when they are whole".
     fn step(&mut self) -> Option<Vec<u8>> {
+        let passed_over = self.over.min(self.read.len());
+        self.take(passed_over);
+        self.over -= passed_over;
         let (connection, left) = self.piece;
         if left > 0 {
             let number = left.min(self.read.len());
@@ -113,15 +128,31 @@ impl Port {
             self.piece = (connection, left - number);
             return Some(self.serve(connection, &bytes)).filter(|_| number > 0);
         }
+        self.frame()
+    }
+
+    /// The next frame, of a piece its head alone. A frame is refused for its head at once, and its bytes passed over.
+    fn frame(&mut self) -> Option<Vec<u8>> {
         let head: Vec<u8> = self.read.iter().copied().take(4).collect();
         let [kind, connection, high, low] = head[..] else {
             return None;
         };
         let length = usize::from(high) * 256 + usize::from(low);
+        let refused_with = match kind {
+            b'b' if usize::from(connection) < CONNECTIONS => None,
+            b'b' => Some(102),
+            _ if bytes_of(kind) == Some(length) => None,
+            _ => Some(0),
+        };
+        if let Some(number) = refused_with {
+            self.take(4);
+            self.over = length;
+            return Some(refusal(connection, number));
+        }
         if kind == b'b' {
             self.take(4);
             self.piece = (connection, length);
-            return Some(if usize::from(connection) < CONNECTIONS { Vec::new() } else { refusal(connection, 102) });
+            return Some(Vec::new());
         }
         if self.read.len() < 4 + length {
             return None;
@@ -130,13 +161,11 @@ impl Port {
         Some(self.call(kind, connection, &whole[4..]))
     }
 
-    /// Bytes of a piece; those of a connection that there is not are passed over.
+    /// Bytes of a piece.
     fn serve(&mut self, connection: u8, bytes: &[u8]) -> Vec<u8> {
         let mut answers = Vec::new();
         for (index, part) in bytes.split(|byte| *byte == CR).enumerate() {
-            let Some(unfinished) = self.unfinished.get_mut(usize::from(connection)) else {
-                return answers;
-            };
+            let unfinished = &mut self.unfinished[usize::from(connection)];
             // between two parts there is a CR
             let line = if index > 0 { Some(std::mem::take(unfinished)) } else { None };
             unfinished.extend(part);

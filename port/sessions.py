@@ -82,7 +82,7 @@ class Sessions:
         expect(not owner.unasked() and not other.unasked(), "more was said than there was to say")
 
     def completing(self):
-        """Three transmissions of different lengths, each complete in its time and told to its own client; short ones."""
+        """Transmissions on three connectors at once, each complete in its time and told to its own client."""
         lengths = {1: 12, 2: 4, 3: 8}  # so many times 2 x 50,000 periods of 2 us
         clients = {port: self.client() for port in lengths}
         clients[2].ask("set_IR,1:2,IR", "IR,1:2,IR")

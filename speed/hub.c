@@ -975,51 +975,87 @@ static void port_close(u32 c)
     do_close(c);
 }
 
-/* A whole frame other than a piece, of n bytes behind its head. */
-static void port_call(u8 kind, u32 c, const u8 *s, size_t n)
+static void port_reading(u32 p, u32 value)
+{
+    if (!do_reading(p, value))
+        frame_refusal(p, 104);
+}
+
+static void port_wait_or_refuse(u32 c, const u8 *s)
+{
+    u64 n = (u64)s[0] << 24 | (u64)s[1] << 16 | (u64)s[2] << 8 | s[3];
+    if (n > WAIT_MAX)
+        frame_refusal(c, 103);
+    else
+        port_wait(n);
+}
+
+/* A whole frame other than a piece, with its bytes, as many as its kind has. */
+static void port_call(u8 kind, u32 c, const u8 *s)
 {
     room();
-    if (kind == 'x' && n == 0)
+    switch (kind) {
+    case 'x':
         port_close(c);
-    else if (kind == 'r' && n == 1) {
-        if (!do_reading(c, s[0]))
-            frame_refusal(c, 104);
-    } else if (kind == 'w' && n == 4) {
-        u64 v = (u64)s[0] << 24 | (u64)s[1] << 16 | (u64)s[2] << 8 | s[3];
-        if (v > WAIT_MAX)
-            frame_refusal(c, 103);
-        else
-            port_wait(v);
-    } else if (kind == 'c' && n == 0)
+        break;
+    case 'r':
+        port_reading(c, s[0]);
+        break;
+    case 'w':
+        port_wait_or_refuse(c, s);
+        break;
+    case 'c':
         port_carriers();
-    else if (kind == 'd' && n == 0)
+        break;
+    default:
         port_due();
-    else
-        frame_refusal(c, 0);
+    }
 }
+
+enum fate { PIECE, CALL, PASSED_OVER };
 
 /* The frame in hand. */
 static struct {
     u8 head[HEAD];
     size_t head_n;
+    enum fate fate;
     size_t left;                     /* of its bytes, those still to come */
-    size_t n;                        /* of those that came, the first few are kept: no call has more */
+    size_t n;                        /* of a call's, those that came */
     u8 byte[4];
 } frame;
 
-static inline size_t frame_size(void) { return (size_t)frame.head[2] << 8 | frame.head[3]; }
+static int fits(u8 kind, size_t n)
+{
+    switch (kind) {
+    case 'x': case 'c': case 'd':
+        return n == 0;
+    case 'r':
+        return n == 1;
+    case 'w':
+        return n == 4;
+    default:
+        return 0;
+    }
+}
+
+/* What a frame's head says of it; what it is refused for is told at once. */
+static enum fate judge(u8 kind, u32 c, size_t n)
+{
+    if (kind == 'b' ? c < CONNECTIONS : fits(kind, n))
+        return kind == 'b' ? PIECE : CALL;
+    room();
+    frame_refusal(c, kind == 'b' ? 102 : 0);
+    return PASSED_OVER;
+}
 
 static const u8 *take_head(const u8 *s, const u8 *e)
 {
     while (s < e && frame.head_n < HEAD)
         frame.head[frame.head_n++] = *s++;
     if (frame.head_n == HEAD) {
-        frame.left = frame_size();
+        frame.left = (size_t)frame.head[2] << 8 | frame.head[3];
         frame.n = 0;
-        if (frame.head[0] == 'b' && frame.head[1] >= CONNECTIONS) {
-            room();
-            frame_refusal(frame.head[1], 102);
-        }
+        frame.fate = judge(frame.head[0], frame.head[1], frame.left);
     }
     return s;
 }
@@ -1029,13 +1065,11 @@ static const u8 *take_bytes(const u8 *s, const u8 *e)
 {
     size_t n = (size_t)(e - s) < frame.left ? (size_t)(e - s) : frame.left;
     frame.left -= n;
-    if (frame.head[0] == 'b') {
-        if (frame.head[1] < CONNECTIONS)
-            port_bytes(frame.head[1], s, s + n);
-    } else {
-        for (size_t i = 0; i < n && frame.n < sizeof frame.byte; i++)
+    if (frame.fate == PIECE)
+        port_bytes(frame.head[1], s, s + n);
+    else if (frame.fate == CALL)
+        for (size_t i = 0; i < n; i++)
             frame.byte[frame.n++] = s[i];
-    }
     return s + n;
 }
 
@@ -1052,8 +1086,8 @@ static void port(void)
             s = take_bytes(s, e);
             if (frame.left > 0)
                 break;
-            if (frame.head[0] != 'b')
-                port_call(frame.head[0], frame.head[1], frame.byte, frame_size());
+            if (frame.fate == CALL)
+                port_call(frame.head[0], frame.head[1], frame.byte);
             frame.head_n = 0;
         }
     }

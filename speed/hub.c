@@ -61,9 +61,6 @@ static struct connector conn[PORTS + 1];   /* 1 to 3 */
 static int relay[PORTS + 1];
 static struct command scratch;
 
-/* where the last line was carried out, for the port: connector or relay p, or none */
-static u32 on_connector, on_relay;
-
 static const char *const mode_name[3] = { "IR", "SENSOR", "IR_BLASTER" };
 static const u8 mode_len[3] = { 2, 6, 10 };
 
@@ -380,20 +377,19 @@ static void do_sendir(u32 c, u32 p, const u8 *s, const u8 *e)
     if (fault)
         goto refuse;
 
-    if (k->busy && k->owner != (int)c) {
+    if (!k->busy)
+        start(k, c);
+    else if (k->owner != (int)c) {
         put_asker(c);
         PUT("busyIR,1:");
         put_char((char)('0' + p));
         put_char(',');
         put_number(scratch.id);
         put_char('\n');
-        return;
-    }
-    if (k->busy && same_command(&k->cmd, &scratch))
+    } else if (same_command(&k->cmd, &scratch))
         renew(k);
     else
         start(k, c);
-    on_connector = p;
     return;
 
 refuse:
@@ -426,7 +422,6 @@ static void do_set_ir(u32 c, u32 p, const u8 *s, const u8 *e)
             k->contact = UNREAD;
         }
         put_mode(c, p);
-        on_connector = p;
     }
 }
 
@@ -440,7 +435,6 @@ static void do_setstate(u32 c, u32 p, const u8 *s, const u8 *e)
     else {
         relay[p] = (int)v;
         put_state(c, 2, p, (int)v);
-        on_relay = p;
     }
 }
 
@@ -458,7 +452,6 @@ static void do_stopir(u32 c, u32 p)
         k->busy = 0;
         k->owner = NOBODY;
     }
-    on_connector = p;
 }
 
 static void do_getstate(u32 c, u32 m, u32 p)
@@ -498,7 +491,7 @@ static enum name read_name(const u8 *s, size_t n)
     return UNKNOWN;
 }
 
-/* One request line of connection c (0 to 7), without its LF, which stands behind it. */
+/* One request line of connection c (0 to 7), without its LF or CR, which stands behind it. */
 static void request(u32 c, const u8 *s, size_t n)
 {
     const u8 *e = s + n, *f;
@@ -830,15 +823,12 @@ static void frame_refusal(u32 c, u32 number)
     put_char((char)number);
 }
 
-/* The bench's lines `c reply` from a place of the output on become frames; those of one connection in a row are one. */
-static void frame_replies(size_t from)
+/* The bench's lines `c reply` as frames; those of one connection in a row are one. */
+static void frame_replies(const char *said, size_t n)
 {
-    char said[REPLY_BYTES];
-    size_t n = out_n - from, head = 0;
+    size_t head = 0;
     int to = NOBODY;
 
-    memcpy(said, out + from, n);
-    out_n = from;
     for (size_t i = 0; i < n; i++) {
         if (said[i] - '0' != to) {
             to = said[i] - '0';
@@ -852,36 +842,67 @@ static void frame_replies(size_t from)
     }
 }
 
-/* How the connector or relay is that the line was carried out on. */
-static void frame_state(u32 c)
+static void frame_connector(u32 c, u32 p)
 {
-    if (on_connector) {
-        const struct connector *k = &conn[on_connector];
-        u32 id = k->busy ? k->cmd.id : 0;
-        put_head('s', c, 6);
-        put_char(1);
-        put_char((char)on_connector);
-        put_char((char)k->mode);
-        put_char((char)k->busy);
-        put_char((char)(id >> 8));
-        put_char((char)id);
-    } else if (on_relay) {
-        put_head('s', c, 3);
-        put_char(2);
-        put_char((char)on_relay);
-        put_char((char)relay[on_relay]);
+    const struct connector *k = &conn[p];
+    u32 id = k->busy ? k->cmd.id : 0;
+    put_head('s', c, 6);
+    put_char(1);
+    put_char((char)p);
+    put_char((char)k->mode);
+    put_char((char)k->busy);
+    put_char((char)(id >> 8));
+    put_char((char)id);
+}
+
+static void frame_relay(u32 c, u32 p)
+{
+    put_head('s', c, 3);
+    put_char(2);
+    put_char((char)p);
+    put_char((char)relay[p]);
+}
+
+/*
+ * How the connector or relay is that a line was carried out on. Where it was
+ * one, the reply to a set_IR, stopir or setstate names it (the other requests
+ * begin with g), and a line without a reply is a sendir that was taken.
+ */
+static void frame_state(u32 c, const u8 *line, const char *said, size_t n)
+{
+    const char *reply = said + 2;
+#define NAMED(text) (memcmp(reply, text, sizeof(text) - 1) == 0)
+#define PORT(text) ((u32)(reply[sizeof(text) - 1] - '0'))
+    if (n == 0) {
+        while (*line++ != ':')
+            ;
+        frame_connector(c, digits(&line));
+    } else if (line[0] != 's') {
+        return;
+    } else if (NAMED("IR,1:")) {
+        frame_connector(c, PORT("IR,1:"));
+    } else if (NAMED("stopir,1:")) {
+        frame_connector(c, PORT("stopir,1:"));
+    } else if (NAMED("state,2:")) {
+        frame_relay(c, PORT("state,2:"));
     }
+#undef NAMED
+#undef PORT
 }
 
 /* One line without its CR, which stands behind it. */
 static void port_line(u32 c, const u8 *s, size_t n)
 {
+    char said[REPLY_BYTES];
+
     room();
     size_t from = out_n;
-    on_connector = on_relay = 0;
     request(c, s, n);
-    frame_replies(from);
-    frame_state(c);
+    size_t said_n = out_n - from;
+    memcpy(said, out + from, said_n);
+    out_n = from;
+    frame_replies(said, said_n);
+    frame_state(c, s, said, said_n);
 }
 
 /* Bytes of a piece: whole lines as they stand, a line that is cut from its parts. */

@@ -203,6 +203,16 @@ class Sessions:
         reading.join()
         self.rate = 8 * REQUESTS / (time.monotonic() - start)
 
+    def shell(self):
+        """The same with a shell alone."""
+        host, port = self.server.address
+        script = f"""
+            exec 3<>/dev/tcp/{host}/{port} && printf 'getversion\\r' >&3
+            read -r -d $'\\r' -t 30 line <&3 && echo "$line"
+        """
+        said = subprocess.run(["bash", "-c", script], stdout=subprocess.PIPE, check=False).stdout
+        expect(said == b"LH-01\n", f"a shell was told {said!r}")
+
     def netcat(self):
         """The same with nc, where it is installed."""
         if not shutil.which("nc"):
@@ -257,8 +267,8 @@ class Sessions:
 
     def all(self):
         for session in (self.readme, self.readings, self.stopping, self.completing, self.inheriting, self.ninth,
-                        self.endless, self.silent, self.killed, self.netcat, self.showing, self.taken, self.interrupted,
-                        self.crowd):
+                        self.endless, self.silent, self.killed, self.shell, self.netcat, self.showing, self.taken,
+                        self.interrupted, self.crowd):
             try:
                 session()
             except Failed as why:

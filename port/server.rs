@@ -74,14 +74,13 @@ impl Server {
         let (waits, to_hear) = channel();
         let (heard, due) = channel();
         let output = program.output()?;
-        let (their_clients, their_events) = (clients.clone(), events.clone());
         let answers = Answers {
-            clients: their_clients,
+            clients: clients.clone(),
+            events: events.clone(),
             display,
             record: back,
             waits: to_hear,
             due: heard,
-            events: their_events,
         };
         let answers = spawn("answers", move || answers.read(output))?;
         let clock = Clock::start();

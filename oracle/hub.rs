@@ -466,11 +466,13 @@ pub struct Hub {
     pub connectors: [Connector; 3],
     /// The states that each relay was set to, with their moments.
     pub relays: [Vec<(Moment, u64)>; 3],
+    /// Module and port of each line that was carried out: a set_IR, setstate or stopir that got its reply, a sendir that was taken.
+    pub carried_out: Vec<(u64, u64)>,
 }
 
 impl Hub {
     pub fn fresh() -> Hub {
-        Hub { now: Moment(0), connectors: Default::default(), relays: Default::default() }
+        Hub { now: Moment(0), connectors: Default::default(), relays: Default::default(), carried_out: Vec::new() }
     }
 
     pub fn connector(&self, port: u64) -> &Connector {
@@ -482,7 +484,7 @@ impl Hub {
     }
 
     /// "Every relay open (0)" in a fresh hub.
-    fn relay(&self, port: u64) -> u64 {
+    pub fn relay(&self, port: u64) -> u64 {
         self.relays[port as usize - 1].last().map_or(0, |(_, state)| *state)
     }
 
@@ -552,6 +554,7 @@ impl Hub {
             let now = self.now;
             self.connector_mut(port).diary.push((now, Note::ModeChanged(mode)));
         }
+        self.carried_out.push((1, port));
         Ok(self.mode_text(port))
     }
 
@@ -560,6 +563,7 @@ impl Hub {
         let state = number_within(fields.get(2), 0, 1).ok_or(23_u32)?;
         fields.no_more_than(3)?;
         self.relays[port as usize - 1].push((self.now, state));
+        self.carried_out.push((2, port));
         Ok(format!("state,2:{port},{}", self.relay(port)))
     }
 
@@ -588,12 +592,14 @@ impl Hub {
             // "From the owner, with equal id, freq, capped repeat, offset and pairs [...]: the transmission is renewed."
             if sending.command == command {
                 sending.renew(now, line);
+                self.carried_out.push((1, port));
                 return Ok(Vec::new());
             }
         }
         // "From the owner with any other field: the old one is dropped without a notice and the new one starts."
         connector.end(now, Ending::Dropped);
         connector.sendings.push(Sending::start(from, now, line, command));
+        self.carried_out.push((1, port));
         Ok(Vec::new())
     }
 
@@ -610,6 +616,7 @@ impl Hub {
         }
         let now = self.now;
         self.connector_mut(port).end(now, Ending::Halted);
+        self.carried_out.push((1, port));
         Ok(said)
     }
 

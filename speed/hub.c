@@ -3,6 +3,8 @@
  * bench's speed is measured against, and compared with on the same lines.
  *
  * Standard input: the bench's lines.  Standard output: the bench's output.
+ * As `hub port` it speaks the frames of docs/PORT.md instead, and can stand in
+ * for the proved program behind the socket.
  * Time is exact: a tick is a millionth of a carrier period, so that one
  * microsecond is freq ticks.  Nothing is rounded but the moment of completion.
  */
@@ -489,7 +491,7 @@ static enum name read_name(const u8 *s, size_t n)
     return UNKNOWN;
 }
 
-/* One request line of connection c (0 to 7), without its LF, which stands behind it. */
+/* One request line of connection c (0 to 7), without its LF or CR, which stands behind it. */
 static void request(u32 c, const u8 *s, size_t n)
 {
     const u8 *e = s + n, *f;
@@ -576,46 +578,91 @@ static void request(u32 c, const u8 *s, size_t n)
 
 /* ----------------------------------------------------------------- calls */
 
-static void do_wait(u64 n)
+/* Microseconds until a busy connector has done all of its periods. */
+static inline u64 due(const struct connector *k)
 {
+    u64 left = (k->lead + k->copies * k->tail) * TICKS - k->at;
+    return (left + k->cmd.freq - 1) / k->cmd.freq;
+}
+
+struct completions {
+    u32 n;
     u64 moment[PORTS];
     u32 port[PORTS];
-    u32 done = 0;
+};
 
+/* Lets n microseconds pass: what completes in them, by moment and then by port. */
+static inline void pass(u64 n, struct completions *all)
+{
+    all->n = 0;
     for (u32 p = 1; p <= PORTS; p++) {
         struct connector *k = &conn[p];
         if (!k->busy)
             continue;
-        u64 freq = k->cmd.freq;
         u64 left = (k->lead + k->copies * k->tail) * TICKS - k->at;
-        if (left > n * freq) {
-            k->at += n * freq;
+        if (left > n * k->cmd.freq) {
+            k->at += n * k->cmd.freq;
             continue;
         }
-        u64 when = (left + freq - 1) / freq;
-        u32 i = done++;
-        while (i > 0 && moment[i - 1] > when) {
-            moment[i] = moment[i - 1];
-            port[i] = port[i - 1];
+        u64 when = due(k);
+        u32 i = all->n++;
+        while (i > 0 && all->moment[i - 1] > when) {
+            all->moment[i] = all->moment[i - 1];
+            all->port[i] = all->port[i - 1];
             i--;
         }
-        moment[i] = when;
-        port[i] = p;
+        all->moment[i] = when;
+        all->port[i] = p;
     }
-    for (u32 i = 0; i < done; i++) {
-        struct connector *k = &conn[port[i]];
+}
+
+static inline void put_complete(u32 p)
+{
+    PUT("completeir,1:");
+    put_char((char)('0' + p));
+    put_char(',');
+    put_number(conn[p].cmd.id);
+}
+
+static inline void complete(u32 p)
+{
+    conn[p].busy = 0;
+    conn[p].owner = NOBODY;
+}
+
+static void do_wait(u64 n)
+{
+    struct completions all;
+
+    pass(n, &all);
+    for (u32 i = 0; i < all.n; i++) {
+        u32 p = all.port[i];
+        int owner = conn[p].owner;
         put_char('@');
-        put_number(moment[i]);
+        put_number(all.moment[i]);
         put_char(' ');
-        put_char(k->owner == NOBODY ? '-' : (char)('0' + k->owner));
-        PUT(" completeir,1:");
-        put_char((char)('0' + port[i]));
-        put_char(',');
-        put_number(k->cmd.id);
+        put_char(owner == NOBODY ? '-' : (char)('0' + owner));
+        put_char(' ');
+        put_complete(p);
         put_char('\n');
-        k->busy = 0;
-        k->owner = NOBODY;
+        complete(p);
     }
+}
+
+static void do_close(u32 c)
+{
+    for (u32 p = 1; p <= PORTS; p++)
+        if (conn[p].owner == (int)c)
+            conn[p].owner = NOBODY;
+}
+
+/* Whether the reading is taken. */
+static int do_reading(u64 p, u64 value)
+{
+    if (p < 1 || p > PORTS || conn[p].mode != SENSOR || value > 1)
+        return 0;
+    conn[p].contact = (int)value;
+    return 1;
 }
 
 static void refuse(const char *number)
@@ -687,15 +734,9 @@ static void bench_line(const u8 *s, size_t n)
         if (a >= CONNECTIONS)
             refuse("102");
         else
-            for (u32 p = 1; p <= PORTS; p++)
-                if (conn[p].owner == (int)a)
-                    conn[p].owner = NOBODY;
-    } else {
-        if (a < 1 || a > PORTS || conn[a].mode != SENSOR || b > 1)
-            refuse("104");
-        else
-            conn[a].contact = (int)b;
-    }
+            do_close((u32)a);
+    } else if (!do_reading(a, b))
+        refuse("104");
     return;
 other:
     refuse("");
@@ -704,26 +745,25 @@ other:
 static u8 block[BLOCK];
 static u8 kept[KEEP + 1];           /* the start of a line begun in an earlier block, and an LF */
 
-int main(void)
+/* What is to be read next into block, after all before it is answered; 0 at the input's end. */
+static size_t next_block(void)
 {
-    size_t kept_n = 0;
-    int partial = 0;                 /* bytes of an unfinished line have been read */
-
-    for (u32 p = 1; p <= PORTS; p++) {
-        conn[p].mode = IR;
-        conn[p].contact = UNREAD;
-        conn[p].owner = NOBODY;
-    }
     for (;;) {
         flush();
         ssize_t got = read(0, block, sizeof block);
-        if (got < 0) {
-            if (errno == EINTR)
-                continue;
-            return 1;
-        }
-        if (got == 0)
-            break;
+        if (got >= 0)
+            return (size_t)got;
+        if (errno != EINTR)
+            _exit(1);
+    }
+}
+
+static void bench(void)
+{
+    size_t kept_n = 0, got;
+    int partial = 0;                 /* bytes of an unfinished line have been read */
+
+    while ((got = next_block()) > 0) {
         const u8 *s = block, *e = block + got;
         while (s < e) {
             const u8 *lf = memchr(s, '\n', (size_t)(e - s));
@@ -750,6 +790,341 @@ int main(void)
     }
     if (partial)
         refuse("");
+}
+
+/* ------------------------------------------------------------------ port */
+
+enum { HEAD = 4, NOBODY_THERE = 255, REPLY_BYTES = 256 };
+
+/* The start of each connection's unfinished line, one byte more than a line may have, and a CR. */
+static struct unfinished {
+    size_t n;
+    u8 byte[LINE_MAX_BYTES + 2];
+} unfinished[CONNECTIONS];
+
+static void put_head(char kind, u32 c, size_t n)
+{
+    put_char(kind);
+    put_char((char)c);
+    put_char((char)(n >> 8));
+    put_char((char)n);
+}
+
+static void put_4(u64 v)
+{
+    for (int shift = 24; shift >= 0; shift -= 8)
+        put_char((char)(v >> shift));
+}
+
+static void frame_refusal(u32 c, u32 number)
+{
+    put_head('!', c, 2);
+    put_char((char)(number >> 8));
+    put_char((char)number);
+}
+
+/* The bench's lines `c reply` as frames; those of one connection in a row are one. */
+static void frame_replies(const char *said, size_t n)
+{
+    size_t head = 0;
+    int to = NOBODY;
+
+    for (size_t i = 0; i < n; i++) {
+        if (said[i] - '0' != to) {
+            to = said[i] - '0';
+            head = out_n;
+            put_head('b', (u32)to, 0);
+        }
+        for (i += 2; said[i] != '\n'; i++)
+            put_char(said[i]);
+        put_char('\r');
+        out[head + 3] = (char)(out_n - head - HEAD);
+    }
+}
+
+static void frame_connector(u32 c, u32 p)
+{
+    const struct connector *k = &conn[p];
+    u32 id = k->busy ? k->cmd.id : 0;
+    put_head('s', c, 6);
+    put_char(1);
+    put_char((char)p);
+    put_char((char)k->mode);
+    put_char((char)k->busy);
+    put_char((char)(id >> 8));
+    put_char((char)id);
+}
+
+static void frame_relay(u32 c, u32 p)
+{
+    put_head('s', c, 3);
+    put_char(2);
+    put_char((char)p);
+    put_char((char)relay[p]);
+}
+
+/*
+ * How the connector or relay is that a line was carried out on. Where it was
+ * one, the reply to a set_IR, stopir or setstate names it (the other requests
+ * begin with g), and a line without a reply is a sendir that was taken.
+ */
+static void frame_state(u32 c, const u8 *line, const char *said, size_t n)
+{
+    const char *reply = said + 2;
+#define NAMED(text) (memcmp(reply, text, sizeof(text) - 1) == 0)
+#define PORT(text) ((u32)(reply[sizeof(text) - 1] - '0'))
+    if (n == 0) {
+        while (*line++ != ':')
+            ;
+        frame_connector(c, digits(&line));
+    } else if (line[0] != 's') {
+        return;
+    } else if (NAMED("IR,1:")) {
+        frame_connector(c, PORT("IR,1:"));
+    } else if (NAMED("stopir,1:")) {
+        frame_connector(c, PORT("stopir,1:"));
+    } else if (NAMED("state,2:")) {
+        frame_relay(c, PORT("state,2:"));
+    }
+#undef NAMED
+#undef PORT
+}
+
+/* One line without its CR, which stands behind it. */
+static void port_line(u32 c, const u8 *s, size_t n)
+{
+    char said[REPLY_BYTES];
+
+    room();
+    size_t from = out_n;
+    request(c, s, n);
+    size_t said_n = out_n - from;
+    memcpy(said, out + from, said_n);
+    out_n = from;
+    frame_replies(said, said_n);
+    frame_state(c, s, said, said_n);
+}
+
+/* Bytes of a piece: whole lines as they stand, a line that is cut from its parts. */
+static void port_bytes(u32 c, const u8 *s, const u8 *e)
+{
+    struct unfinished *u = &unfinished[c];
+    while (s < e) {
+        const u8 *cr = memchr(s, '\r', (size_t)(e - s));
+        size_t n = (size_t)((cr ? cr : e) - s);
+        if (cr && u->n == 0) {
+            port_line(c, s, n);
+        } else {
+            /* what is cut off changes nothing: the line is 015 */
+            if (n > LINE_MAX_BYTES + 1 - u->n)
+                n = LINE_MAX_BYTES + 1 - u->n;
+            memcpy(u->byte + u->n, s, n);
+            u->n += n;
+            if (cr) {
+                u->byte[u->n] = '\r';
+                port_line(c, u->byte, u->n);
+                u->n = 0;
+            }
+        }
+        s = cr ? cr + 1 : e;
+    }
+}
+
+static void port_wait(u64 n)
+{
+    struct completions all;
+
+    pass(n, &all);
+    for (u32 i = 0; i < all.n; i++) {
+        u32 p = all.port[i];
+        int owner = conn[p].owner;
+        size_t head = out_n;
+        put_head('f', owner == NOBODY ? NOBODY_THERE : (u32)owner, 0);
+        put_4(all.moment[i]);
+        put_complete(p);
+        put_char('\r');
+        out[head + 3] = (char)(out_n - head - HEAD);
+        complete(p);
+    }
+}
+
+/* The carrier is on where the periods done lie in an on count, its start included and its end not. */
+static int carrier(const struct connector *k)
+{
+    u64 lead = k->lead * TICKS, at = k->at, end = 0;
+
+    if (!k->busy)
+        return 0;
+    if (at >= lead)
+        at = lead + (at - lead) % (k->tail * TICKS);
+    for (u32 i = 0; i < k->cmd.n; i++) {
+        end += (u64)(k->cmd.pair[i] >> 16) * TICKS;
+        if (at < end)
+            return 1;
+        end += (u64)(k->cmd.pair[i] & 0xFFFF) * TICKS;
+        if (at < end)
+            return 0;
+    }
+    return 0;
+}
+
+static void port_due(void)
+{
+    u64 next = WAIT_MAX + 1;
+    for (u32 p = 1; p <= PORTS; p++)
+        if (conn[p].busy && due(&conn[p]) < next)
+            next = due(&conn[p]);
+    put_head('d', 0, next <= WAIT_MAX ? 4 : 0);
+    if (next <= WAIT_MAX)
+        put_4(next);
+}
+
+static void port_carriers(void)
+{
+    put_head('c', 0, PORTS);
+    for (u32 p = 1; p <= PORTS; p++)
+        put_char((char)carrier(&conn[p]));
+}
+
+static void port_close(u32 c)
+{
+    if (c >= CONNECTIONS) {
+        frame_refusal(c, 102);
+        return;
+    }
+    unfinished[c].n = 0;
+    do_close(c);
+}
+
+static void port_reading(u32 p, u32 value)
+{
+    if (!do_reading(p, value))
+        frame_refusal(p, 104);
+}
+
+static void port_wait_or_refuse(u32 c, const u8 *s)
+{
+    u64 n = (u64)s[0] << 24 | (u64)s[1] << 16 | (u64)s[2] << 8 | s[3];
+    if (n > WAIT_MAX)
+        frame_refusal(c, 103);
+    else
+        port_wait(n);
+}
+
+/* A whole frame other than a piece, with its bytes, as many as its kind has. */
+static void port_call(u8 kind, u32 c, const u8 *s)
+{
+    room();
+    switch (kind) {
+    case 'x':
+        port_close(c);
+        break;
+    case 'r':
+        port_reading(c, s[0]);
+        break;
+    case 'w':
+        port_wait_or_refuse(c, s);
+        break;
+    case 'c':
+        port_carriers();
+        break;
+    default:
+        port_due();
+    }
+}
+
+enum fate { PIECE, CALL, PASSED_OVER };
+
+/* The frame in hand. */
+static struct {
+    u8 head[HEAD];
+    size_t head_n;
+    enum fate fate;
+    size_t left;                     /* of its bytes, those still to come */
+    size_t n;                        /* of a call's, those that came */
+    u8 byte[4];
+} frame;
+
+static int fits(u8 kind, size_t n)
+{
+    switch (kind) {
+    case 'x': case 'c': case 'd':
+        return n == 0;
+    case 'r':
+        return n == 1;
+    case 'w':
+        return n == 4;
+    default:
+        return 0;
+    }
+}
+
+/* What a frame's head says of it; what it is refused for is told at once. */
+static enum fate judge(u8 kind, u32 c, size_t n)
+{
+    if (kind == 'b' ? c < CONNECTIONS : fits(kind, n))
+        return kind == 'b' ? PIECE : CALL;
+    room();
+    frame_refusal(c, kind == 'b' ? 102 : 0);
+    return PASSED_OVER;
+}
+
+static const u8 *take_head(const u8 *s, const u8 *e)
+{
+    while (s < e && frame.head_n < HEAD)
+        frame.head[frame.head_n++] = *s++;
+    if (frame.head_n == HEAD) {
+        frame.left = (size_t)frame.head[2] << 8 | frame.head[3];
+        frame.n = 0;
+        frame.fate = judge(frame.head[0], frame.head[1], frame.left);
+    }
+    return s;
+}
+
+/* Takes what was read of the frame's bytes. */
+static const u8 *take_bytes(const u8 *s, const u8 *e)
+{
+    size_t n = (size_t)(e - s) < frame.left ? (size_t)(e - s) : frame.left;
+    frame.left -= n;
+    if (frame.fate == PIECE)
+        port_bytes(frame.head[1], s, s + n);
+    else if (frame.fate == CALL)
+        for (size_t i = 0; i < n; i++)
+            frame.byte[frame.n++] = s[i];
+    return s + n;
+}
+
+static void port(void)
+{
+    size_t got;
+    while ((got = next_block()) > 0) {
+        const u8 *s = block, *e = block + got;
+        while (s < e) {
+            if (frame.head_n < HEAD)
+                s = take_head(s, e);
+            if (frame.head_n < HEAD)
+                break;
+            s = take_bytes(s, e);
+            if (frame.left > 0)
+                break;
+            if (frame.fate == CALL)
+                port_call(frame.head[0], frame.head[1], frame.byte);
+            frame.head_n = 0;
+        }
+    }
+}
+
+int main(int argc, char **argv)
+{
+    for (u32 p = 1; p <= PORTS; p++) {
+        conn[p].mode = IR;
+        conn[p].contact = UNREAD;
+        conn[p].owner = NOBODY;
+    }
+    if (argc > 1 && strcmp(argv[1], "port") == 0)
+        port();
+    else
+        bench();
     flush();
     return 0;
 }

@@ -399,3 +399,17 @@ module _ (room : ℕ) (c : ℕ) (few : c ≤ 7) (x y : List ℕ) (after : List E
           → callsFrom room begun (before ++ (piece c (x ++ y) ∷ after)) ≡ callsFrom room begun (before ++ (piece c x ∷ piece c y ∷ after))
       go [] begun = cut-begun begun
       go (e ∷ before) begun = ap (λ (l : List Call). callsBy room begun e ++ l) (go before (begunBy begun e))
+
+-- ---- bytes that end no line leave nothing behind a closing of their connection
+pub closing-drops : (room c : ℕ) → c ≤ 7 → (begun : ℕ → List ℕ) (x : List ℕ) → divided (begun c) x .parts ≡ [] → (events : List Event)
+    → callsFrom room begun (piece c x ∷ closed c ∷ events) ≡ callsFrom room begun (closed c ∷ events)
+closing-drops room c few begun x none events =
+    let same : begunWith c [] (begunWith c (divided (begun c) x .rest) begun) ≡ begunWith c [] begun =
+    λ i d. by-test (eqb d c) (λ e. dropped d e) (λ e. kept d e) i in
+    rw (le-ltb 7 c few, none) (ap (λ (b : ℕ → List ℕ). call.closing c ∷ callsFrom room b events) same)
+  where
+    dropped : (d : ℕ) → eqb d c ≡ true → begunWith c [] (begunWith c (divided (begun c) x .rest) begun) d ≡ begunWith c [] begun d
+    dropped d e = rw e
+
+    kept : (d : ℕ) → eqb d c ≡ false → begunWith c [] (begunWith c (divided (begun c) x .rest) begun) d ≡ begunWith c [] begun d
+    kept d e = rw e

@@ -2,7 +2,7 @@
 -- reply by reply and to whom, is what the history of the lines means, each line taking place at its CR.
 use Prim.Native.Nat.{ℕ, zero, suc, _+_, _*_, _≤_, _<_}
 use mathlib.Core.Path.{_≡_, refl, sym, ap, ap₂, _∙_, subst}
-use mathlib.Core.Bool.{true}
+use mathlib.Core.Bool.{true, false}
 use mathlib.Core.List.{List, [], _∷_, _++_, map, map-append, append-assoc, append-nil, flatten}
 use mathlib.Core.Option.{Option, none, some}
 use native.Mathlib.Omega.{arith}
@@ -403,10 +403,10 @@ module _ (room : ℕ) (c : ℕ) (few : c ≤ 7) (x y : List ℕ) (after : List E
 -- ---- bytes that end no line leave nothing behind a closing of their connection
 pub closing-drops : (room c : ℕ) → c ≤ 7 → (begun : ℕ → List ℕ) (x : List ℕ) → divided (begun c) x .parts ≡ [] → (events : List Event)
     → callsFrom room begun (piece c x ∷ closed c ∷ events) ≡ callsFrom room begun (closed c ∷ events)
-closing-drops room c few begun x none events =
+closing-drops room c few begun x unended events =
     let same : begunWith c [] (begunWith c (divided (begun c) x .rest) begun) ≡ begunWith c [] begun =
     λ i d. by-test (eqb d c) (λ e. dropped d e) (λ e. kept d e) i in
-    rw (le-ltb 7 c few, none) (ap (λ (b : ℕ → List ℕ). call.closing c ∷ callsFrom room b events) same)
+    rw (le-ltb 7 c few, unended) (ap (λ (b : ℕ → List ℕ). call.closing c ∷ callsFrom room b events) same)
   where
     dropped : (d : ℕ) → eqb d c ≡ true → begunWith c [] (begunWith c (divided (begun c) x .rest) begun) d ≡ begunWith c [] begun d
     dropped d e = rw e

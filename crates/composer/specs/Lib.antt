@@ -1,4 +1,3 @@
 pub mod Fault
 pub mod Compose
-pub mod Composed
 pub mod Worked

@@ -5,4 +5,3 @@ pub mod ReadBack
 pub mod Heads
 pub mod Bytes
 pub mod Forms
-pub mod RoundTrip

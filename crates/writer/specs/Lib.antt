@@ -1,3 +1,2 @@
 pub mod CodeText
 pub mod Sendir
-pub mod RoundTrip

@@ -12,13 +12,13 @@ use Rattle.request.specs.Request.{readRequest}
 use Rattle.command.specs.declared.given.Command.{Command}
 use Rattle.reads.proofs.Cursor.{next}
 use Rattle.reads.proofs.Rows.{one-module}
 use Rattle.composer.specs.declared.Wish.{Wish}
 use Rattle.composer.specs.Fault.{placeFault, fieldsFault, countsFault, sendirFault, wishFault}
 use Rattle.composer.specs.Compose.{wishText}
-use Rattle.composer.specs.Composed.{placeIn, WideWish, WideCommand, faultFor, spelledOut, RefusedAs, by-place, by-command}
-use Rattle.composer.proofs.Placed.{there, line-read}
-use Rattle.composer.proofs.Wishes.{wish-read}
-use Rattle.composer.proofs.Sendirs.{spelled-line, spelled-fields, fields-refused, code-refused, offset-refused}
+use Rattle.readback.specs.Composed.{placeIn, WideWish, WideCommand, faultFor, spelledOut, RefusedAs, by-place, by-command}
+use Rattle.readback.proofs.Placed.{there, line-read}
+use Rattle.readback.proofs.Wishes.{wish-read}
+use Rattle.readback.proofs.Sendirs.{spelled-line, spelled-fields, fields-refused, code-refused, offset-refused}
 
 -- a wish that the composer refuses is refused by the hub, with the same number
 pub refused-as-read : (wish : Wish) → WideWish wish → (wishFault wish ≡ 0 → ⊥)

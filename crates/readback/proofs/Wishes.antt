@@ -34,13 +34,13 @@ use Rattle.request.specs.Mode.{modeWord, mayHave}
 use Rattle.request.specs.Request.{alone, setIrAt, setStateAt, getStateAt, atAddress, readRequest}
 use Rattle.reads.proofs.Cursor.{isMode, modeIn, Cursor, next, over, within-is, mode-is}
 use Rattle.reads.proofs.Rows.{one-module, two-modules}
 use Rattle.composer.specs.declared.Wish.{Wish}
 use Rattle.composer.specs.declared.Wish.the-variants.{Fixed, SetMode, GetMode, SetState, GetState, Stop}
 use Rattle.composer.specs.Fault.{orElse, placeFault, wishFault}
 use Rattle.composer.specs.Compose.{wishText}
-use Rattle.composer.specs.Composed.{requestOf, Wide, placeIn, WideWish, faultFor}
-use Rattle.composer.proofs.Counts.{number-back}
-use Rattle.composer.proofs.Placed.{decimal-within, place-named, fair, decimal-fair, addressOf, Line, line-of, there, ends, line-read}
+use Rattle.readback.specs.Composed.{requestOf, Wide, placeIn, WideWish, faultFor}
+use Rattle.readback.proofs.Counts.{number-back}
+use Rattle.readback.proofs.Placed.{decimal-within, place-named, fair, decimal-fair, addressOf, Line, line-of, there, ends, line-read}
 
 -- nothing stands behind a request's last field
 alone-is : {s : List ℕ} {k at : ℕ} → Cursor s k at → length (cut 44 s) ≡ suc k → (r : Request) → alone s (at + length (part 44 k s)) r ≡ r

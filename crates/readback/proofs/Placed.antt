@@ -32,9 +32,9 @@ use Rattle.request.specs.Address.{beyond, hasModule, addressFault}
 use Rattle.request.specs.Request.{isPrintable, fault, atAddress, addressed, readRequest}
 use Rattle.reads.proofs.Cursor.{counts, counts-within, Cursor, start, next, address-is-at}
 use Rattle.reads.proofs.Rows.{ports-below}
 use Rattle.composer.specs.Fault.{placeFault}
-use Rattle.composer.specs.Composed.{Wide, faultFor}
-use Rattle.composer.proofs.Counts.{number-back}
+use Rattle.readback.specs.Composed.{Wide, faultFor}
+use Rattle.readback.proofs.Counts.{number-back}
 
 -- ---- a decimal of any machine's number
 decimal-number : (n : ℕ) → isNumber (decimal n) ≡ true

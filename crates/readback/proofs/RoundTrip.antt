@@ -31,16 +31,16 @@ use Rattle.command.specs.Read.{CommandReading, sent, faulty, codeAt, commandAt}
 use Rattle.command.specs.Given.{takenAs, commandGiven}
 use Rattle.command.proofs.Capping.{capped-high}
 use Rattle.reads.proofs.Codes.{means-accepted}
 use Rattle.writer.specs.declared.Form.{Form}
 use Rattle.writer.specs.declared.sendir.Written.the-variants.{Refused, Line}
 use Rattle.writer.specs.CodeText.{items, codeText}
 use Rattle.writer.specs.Sendir.{sendirHead, sendirLine, Outcome, refused, line, commandOutcome, outcome, Wrote}
-use Rattle.writer.specs.RoundTrip.{ReadsBack}
+use Rattle.readback.specs.RoundTrip.{ReadsBack}
 use Rattle.writer.proofs.Limits.{Taken, given-taken, small}
 use Rattle.writer.proofs.ReadBack.{code-means, code-back}
 use Rattle.writer.proofs.Heads.{capped-same, fieldsIn, line-is, head-back}
 use Rattle.writer.proofs.Bytes.{listed-all, text-all, head-few, code-few}
 use Rattle.writer.proofs.Forms.{items-low}
 
 -- ---- what is written was taken
 record LineTaken (form : Form) (c : Command) (given text : List ℕ) : Type 0 where

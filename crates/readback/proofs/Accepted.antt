@@ -20,23 +20,23 @@ use Rattle.request.specs.Request.{isPrintable, fault, readRequest}
 use Rattle.command.specs.declared.given.Command.{Command}
 use Rattle.writer.specs.declared.Form.{Form}
 use Rattle.writer.specs.Sendir.{line, outcome}
-use Rattle.writer.specs.RoundTrip.{ReadsBack}
-use Rattle.writer.proofs.RoundTrip.{line-back, line-meant}
+use Rattle.readback.specs.RoundTrip.{ReadsBack}
+use Rattle.readback.proofs.RoundTrip.{line-back, line-meant}
 use Rattle.lines.specs.Cut.{whole, lineOf, linesOf, noCr}
 use Rattle.lines.specs.Take.{freshAssembler}
 use Rattle.lines.specs.Feed.{feed}
 use Rattle.lines.proofs.Cutting.{lines-are}
 use Rattle.lines.proofs.Feeding.{feed-is-lines}
 use Rattle.composer.specs.declared.Wish.{Wish}
 use Rattle.composer.specs.declared.Wish.the-variants as wish
 use Rattle.composer.specs.declared.Composed.the-variants.{Line}
 use Rattle.composer.specs.Fault.{placeFault, sendirFault, wishFault}
 use Rattle.composer.specs.Compose.{wishText, wishOutcome, sendirOutcome, Composes}
-use Rattle.composer.specs.Composed.{requestOf, Wide, WideWish}
+use Rattle.readback.specs.Composed.{requestOf, Wide, WideWish}
 use Rattle.composer.proofs.Faults.{no-fault, neither, place-within}
 use Rattle.composer.proofs.Composing.{LineComposed, line-composed}
 use Rattle.composer.proofs.Sending.{sendirText, sendir-outcome}
-use Rattle.composer.proofs.Wishes.{wish-read}
+use Rattle.readback.proofs.Wishes.{wish-read}
 
 -- the pieces of what was composed give the lines of its text and its CR
 one-line : {text line : List ℕ} (pieces : List (List ℕ)) (buffer : List ℕ) → length buffer ≡ 4096 → flatten pieces ≡ line → line ≡ text ++ (13 ∷ [])

@@ -24,8 +24,8 @@ use Rattle.meaning.specs.Line.{isCount, isLetter, opening, on, offDue, off, spe
 use Rattle.code.specs.Limits.{legal}
 use Rattle.code.proofs.Smallest.{legal-is}
 use Rattle.reads.proofs.Bytewise.{count-is, on-run, off-run}
 use Rattle.composer.specs.Fault.{countsFault}
-use Rattle.composer.specs.Composed.{Wide, EachWide}
+use Rattle.readback.specs.Composed.{Wide, EachWide}
 
 no-letter : (b : ℕ) → isDigit b ≡ true → isLetter b ≡ false
 no-letter b e = let r = digit-range b e in rw (lt-leb 65 b (omega arith))

@@ -36,10 +36,10 @@ use Rattle.command.specs.Read.{faulty, codeRead, codeAt, commandAt}
 use Rattle.reads.specs.Readings.{readingOf}
 use Rattle.reads.proofs.Cursor.{Cursor, next, within-is}
 use Rattle.reads.proofs.Bytewise.{code-bytewise}
 use Rattle.composer.specs.Fault.{fieldsFault, countsFault}
-use Rattle.composer.specs.Composed.{Wide, EachWide, WideCommand, spelledOut}
-use Rattle.composer.proofs.Counts.{number-back, counts-read}
-use Rattle.composer.proofs.Placed.{decimal-within, fair, decimal-fair, decimals-fair, fair-free, addressOf, address-fair, Line, line-of}
+use Rattle.readback.specs.Composed.{Wide, EachWide, WideCommand, spelledOut}
+use Rattle.readback.proofs.Counts.{number-back, counts-read}
+use Rattle.readback.proofs.Placed.{decimal-within, fair, decimal-fair, decimals-fair, fair-free, addressOf, address-fair, Line, line-of}
 
 -- a field that is a decimal of a machine's number
 pub record Holds (field : List ℕ) (n : ℕ) : Type 0 where

@@ -89,7 +89,7 @@ module _ (s : List ℕ) where
       let p : part 32 1 s ≡ part 32 0 (behind 32 1 s) = part-is 32 1 s ∙ sym (part-is 32 0 (behind 32 1 s)) in
       let w = one-letter (upTo 32 s) one in
       let a : getD s 0 0 ≡ getD (upTo 32 s) 0 0 =
-          ap (λ (l : List ℕ). getD l 0 0) (parted 32 s h ∙ ap (λ (l : List ℕ). l ++ (32 ∷ behind 32 1 s)) w) in
+      ap (λ (l : List ℕ). getD l 0 0) (parted 32 s h ∙ ap (λ (l : List ℕ). l ++ (32 ∷ behind 32 1 s)) w) in
       let u : upTo 32 s ≡ getD s 0 0 ∷ [] = w ∙ ap (λ (n : ℕ). n ∷ []) (sym a) in
       rw (part-is 32 0 s, e, b, u, p, ← behind-next 32 1 s) (letters (getD s 0 0) _ _ _ _ _ _)
 

@@ -5,4 +5,5 @@ pub mod Putting
 pub mod Replies
 pub mod Printing
 pub mod Turning
+pub mod Keeping
 pub mod Examples

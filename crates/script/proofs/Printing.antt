@@ -45,7 +45,7 @@ module _ (who text : List ℕ) (i end : ℕ) (e : end ≡ i + length (upTo 13 (d
       let short : length u < length rest = omega (arith, upTo-length 13 rest, length-drop i text, line-within h) in
       let n : i + (length u + 1) ≡ end + 1 = omega arith in
       let b : behind 13 1 rest ≡ drop (end + 1) text =
-          sym (parted-behind 13 rest short) ∙ drop-drop (length u + 1) i text ∙ ap (λ (k : ℕ). drop k text) n in
+      sym (parted-behind 13 rest short) ∙ drop-drop (length u + 1) i text ∙ ap (λ (k : ℕ). drop k text) n in
       ap (linesFor who) (parted-cut 13 rest short ∙ ap (λ (l : List ℕ). u ∷ cut 13 l) b)
       ∙ lines-next who u (cut 13 (drop (end + 1) text)) (omega (arith, parts-are 13 (drop (end + 1) text)))
       ∙ ap (λ (l : List ℕ). lineFor who l ++ linesFor who (cut 13 (drop (end + 1) text))) (sym line-is)

@@ -57,7 +57,7 @@ covered b at more under text h room =
     let s : over b (at + more) under ≡ sets b (at + more) under = sym (stores-over under b (at + more) (omega arith)) in
     let t : take at (over b (at + more) under) ≡ take at b = ap (take at) s ∙ sets-before under b at (at + more) (omega arith) in
     let d : drop (at + length text) (over b (at + more) under) ≡ drop (at + length text) b =
-        ap (drop (at + length text)) s ∙ sets-behind under b (at + length text) (at + more) (omega arith) in
+    ap (drop (at + length text)) s ∙ sets-behind under b (at + length text) (at + more) (omega arith) in
     ap (λ (l : List ℕ). (l ++ text) ++ drop (at + length text) (over b (at + more) under)) t
     ∙ ap (λ (l : List ℕ). (take at b ++ text) ++ l) d
 
@@ -81,21 +81,21 @@ around b at x front size e room stands =
     let behind = drop (at + 2 + size) b in
     let la : length a ≡ at = length-take-le at b (omega arith) in
     let two : take (at + 2) b ≡ a ++ (getD b at 0 ∷ getD b (at + 1) 0 ∷ []) =
-        take-add at 2 b ∙ ap (λ (l : List ℕ). a ++ take 2 l) (drop-next b at 0 (omega arith) ∙ ap (λ (l : List ℕ). getD b at 0 ∷ l) (drop-next b (at + 1) 0 (omega arith))) in
+    take-add at 2 b ∙ ap (λ (l : List ℕ). a ++ take 2 l) (drop-next b at 0 (omega arith) ∙ ap (λ (l : List ℕ). getD b at 0 ∷ l) (drop-next b (at + 1) 0 (omega arith))) in
     let n : at + 2 + length (front ++ (13 ∷ [])) ≡ at + 2 + size = omega (arith, length-append front (13 ∷ [])) in
     let e0 : b ≡ a ++ (getD b at 0 ∷ getD b (at + 1) 0 ∷ (front ++ (13 ∷ behind))) =
-        stands
-        ∙ ap (λ (l : List ℕ). (l ++ (front ++ (13 ∷ []))) ++ drop (at + 2 + length (front ++ (13 ∷ []))) b) two
-        ∙ ap (λ (k : ℕ). ((a ++ (getD b at 0 ∷ getD b (at + 1) 0 ∷ [])) ++ (front ++ (13 ∷ []))) ++ drop k b) n
-        ∙ simp append-assoc in
+    stands
+    ∙ ap (λ (l : List ℕ). (l ++ (front ++ (13 ∷ []))) ++ drop (at + 2 + length (front ++ (13 ∷ []))) b) two
+    ∙ ap (λ (k : ℕ). ((a ++ (getD b at 0 ∷ getD b (at + 1) 0 ∷ [])) ++ (front ++ (13 ∷ []))) ++ drop k b) n
+    ∙ simp append-assoc in
     let e1 : set b at x ≡ (a ++ (x ∷ [])) ++ (getD b (at + 1) 0 ∷ (front ++ (13 ∷ behind))) =
-        ap (λ (l : List ℕ). set l at x) e0 ∙ set-at a _ _ x at la ∙ simp append-assoc in
+    ap (λ (l : List ℕ). set l at x) e0 ∙ set-at a _ _ x at la ∙ simp append-assoc in
     let l1 : length (a ++ (x ∷ [])) ≡ at + 1 = rw (length-append, la) in
     let e2 : set (set b at x) (at + 1) 32 ≡ (a ++ (x ∷ 32 ∷ front)) ++ (13 ∷ behind) =
-        ap (λ (l : List ℕ). set l (at + 1) 32) e1 ∙ set-at (a ++ (x ∷ [])) _ _ 32 (at + 1) l1 ∙ simp append-assoc in
+    ap (λ (l : List ℕ). set l (at + 1) 32) e1 ∙ set-at (a ++ (x ∷ [])) _ _ 32 (at + 1) l1 ∙ simp append-assoc in
     let l2 : length (a ++ (x ∷ 32 ∷ front)) ≡ at + 1 + size = rw (length-append, la) (omega arith) in
     let e3 : set (set (set b at x) (at + 1) 32) (at + 1 + size) 10 ≡ (a ++ (x ∷ 32 ∷ front)) ++ (10 ∷ behind) =
-        ap (λ (l : List ℕ). set l (at + 1 + size) 10) e2 ∙ set-at (a ++ (x ∷ 32 ∷ front)) _ _ 10 (at + 1 + size) l2 in
+    ap (λ (l : List ℕ). set l (at + 1 + size) 10) e2 ∙ set-at (a ++ (x ∷ 32 ∷ front)) _ _ 10 (at + 1 + size) l2 in
     let k : at + 2 + size ≡ at + length (x ∷ 32 ∷ (front ++ (10 ∷ []))) = omega (arith, length-append front (10 ∷ [])) in
     record {
       place = k;

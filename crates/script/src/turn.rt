@@ -72,7 +72,14 @@ fn put_apart(out: &mut [u8], used: usize, connection: u8, reply: Reply, also: Ow
 }
 
 // A reply as lines, the asker's before the owner's; its bytes stand behind room for the asker's number.
-fn put_reply(out: &mut [u8], used: usize, connection: u8, reply: Reply, also: Owner, size: usize) -> usize
+fn put_reply(
+    out: &mut [u8],
+    used: usize,
+    connection: u8,
+    reply: Reply,
+    also: Owner,
+    size: usize,
+) -> usize
     requires { ⌜ (used + 1024 ≤ length (now out)) × (connection ≤ 7) × (size ≡ length (replyText reply))
         × (now out ≡ over (now out) (used + 2) (replyText reply)) ⌝ }
     ensures { λ r. ⌜ Put (now (out .entry)) used (printedReply (decimal connection) (replyText reply) ++ printedAlso also (replyText reply))

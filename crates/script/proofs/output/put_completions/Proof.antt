@@ -52,9 +52,11 @@ loop-again c =
     let loop = c .before .before .before .before .before .before .before in
     let start = loop .before .before .before in
     let done = start .args .completions in
-    let put = c .before .before .put-completion .ensures in
-    (omega arith, omega (arith, put .1, loop .loop .inv .1),
-    putting-more (loop .loop .inv .2) (completions-more (done .items) (done .count) (loop .loop .i) (c .before .before .before .before .before .if1 .left) (omega (arith, long start, c .before .before .before .before .before .before .loop-test .taken))) (put .0))
+    let put = c .before .before .put-completion .ensures in (
+      omega arith,
+      omega (arith, put .1, loop .loop .inv .1),
+      putting-more (loop .loop .inv .2) (completions-more (done .items) (done .count) (loop .loop .i) (c .before .before .before .before .before .if1 .left) (omega (arith, long start, c .before .before .before .before .before .before .loop-test .taken))) (put .0),
+    )
 
 same-length-2 : tie.Need-same-length-2 Inv-loop μ-loop
 same-length-2 c = putting-length (c .before .loop .inv .2)

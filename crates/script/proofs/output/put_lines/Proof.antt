@@ -53,8 +53,11 @@ put-line-requires c κs =
     let start = loop .before .before .before in
     let args = start .args in
     let end = c .before .before .before in
-    omega (arith, putting-room (loop .loop .inv .1) (start .pre),
-    line-room (whoText (args .who)) (now (args .text)) (loop .loop .i) (end .part-end .result) (end .part-end .ensures) (loop .loop .inv .0) (c .before .before .if1 .left))
+    omega (
+      arith,
+      putting-room (loop .loop .inv .1) (start .pre),
+      line-room (whoText (args .who)) (now (args .text)) (loop .loop .i) (end .part-end .result) (end .part-end .ensures) (loop .loop .inv .0) (c .before .before .if1 .left),
+    )
 
 add-i : tie.Need-add-i Inv-loop μ-loop
 add-i c =
@@ -74,11 +77,12 @@ loop-again : tie.Need-loop-again Inv-loop μ-loop
 loop-again c =
     let loop = c .before .before .before .before .before .before .before .before in
     let args = loop .before .before .before .args in
-    let end = c .before .before .before .before .before .before in
-    (omega (arith, line-within (whoText (args .who)) (now (args .text)) (loop .loop .i) (end .part-end .result) (end .part-end .ensures) (loop .loop .inv .0), c .before .before .before .before .before .if1 .left),
-    putting-more (loop .loop .inv .1)
-    (lines-more (whoText (args .who)) (now (args .text)) (loop .loop .i) (end .part-end .result) (end .part-end .ensures) (loop .loop .inv .0) (c .before .before .before .before .before .if1 .left))
-    (c .before .before .put-line .ensures))
+    let end = c .before .before .before .before .before .before in (
+      omega (arith, line-within (whoText (args .who)) (now (args .text)) (loop .loop .i) (end .part-end .result) (end .part-end .ensures) (loop .loop .inv .0), c .before .before .before .before .before .if1 .left),
+      putting-more (loop .loop .inv .1)
+          (lines-more (whoText (args .who)) (now (args .text)) (loop .loop .i) (end .part-end .result) (end .part-end .ensures) (loop .loop .inv .0) (c .before .before .before .before .before .if1 .left))
+          (c .before .before .put-line .ensures),
+    )
 
 same-length-2 : tie.Need-same-length-2 Inv-loop μ-loop
 same-length-2 c = putting-length (c .before .loop .inv .1)

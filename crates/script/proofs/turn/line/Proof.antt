@@ -27,11 +27,12 @@ put-answer-requires c κs =
     let told = c .before .before .before .answered .ensures .writes in
     let start = c .before .before .before .before .before .before .before .before in
     let args = start .args in
-    let o = lineOutcome (args .hub) (now (args .store)) (args .connection) (now (args .request)) (args .more) in
-    (omega (arith, start .pre .1, again-length (o .decided) (now (args .out)) (args .used) (start .pre .1) told),
-    rw (told .result) (for-one (args .hub) (now (args .store)) (args .connection) (now (args .request)) (args .more)),
-    sized-so (o .decided) (now (args .out)) (args .used) (start .pre .1) told,
-    again-stands (o .decided) (now (args .out)) (args .used) (start .pre .1) told)
+    let o = lineOutcome (args .hub) (now (args .store)) (args .connection) (now (args .request)) (args .more) in (
+      omega (arith, start .pre .1, again-length (o .decided) (now (args .out)) (args .used) (start .pre .1) told),
+      rw (told .result) (for-one (args .hub) (now (args .store)) (args .connection) (now (args .request)) (args .more)),
+      sized-so (o .decided) (now (args .out)) (args .used) (start .pre .1) told,
+      again-stands (o .decided) (now (args .out)) (args .used) (start .pre .1) told,
+    )
 
 same-length : tie.Need-same-length
 same-length c = search needs

@@ -56,19 +56,26 @@ fn is_one_line(reply: Reply) -> bool
     }
 }
 
-// A reply of several lines, or one that is for an owner too: its bytes are written aside, and each line is put for each of them.
-fn put_apart(out: &mut [u8], used: usize, connection: u8, reply: Reply, also: Owner) -> usize
+// A reply of several lines: its bytes are written aside, and each line is put for the asker.
+fn put_alone(out: &mut [u8], used: usize, connection: u8, reply: Reply) -> usize
     requires { ⌜ used + 1024 ≤ length (now out) ⌝ }
-    ensures { λ r. ⌜ Put (now (out .entry)) used (printedReply (decimal connection) (replyText reply) ++ printedAlso also (replyText reply))
-        (now (out .exit)) r ⌝ }
+    ensures { λ r. ⌜ Put (now (out .entry)) used (printedReply (decimal connection) (replyText reply)) (now (out .exit)) r ⌝ }
+{
+    let mut text = [0u8; Reply::ROOM];
+    let size = reply::put_reply(&mut text, reply);
+    output::put_lines(out, used, Owner::Connection(connection), &text[..size])
+}
+
+// The same for one connection, and then for another.
+fn put_both(out: &mut [u8], used: usize, connection: u8, other: u8, reply: Reply) -> usize
+    requires { ⌜ used + 1024 ≤ length (now out) ⌝ }
+    ensures { λ r. ⌜ Put (now (out .entry)) used
+        (printedReply (decimal connection) (replyText reply) ++ printedReply (decimal other) (replyText reply)) (now (out .exit)) r ⌝ }
 {
     let mut text = [0u8; Reply::ROOM];
     let size = reply::put_reply(&mut text, reply);
     let o = output::put_lines(out, used, Owner::Connection(connection), &text[..size]);
-    match also {
-        Owner::Nobody => o,
-        Owner::Connection(_) => output::put_lines(out, o, also, &text[..size]),
-    }
+    output::put_lines(out, o, Owner::Connection(other), &text[..size])
 }
 
 // A reply as lines, the asker's before the owner's; its bytes stand behind room for the asker's number.
@@ -86,12 +93,12 @@ fn put_reply(
         (now (out .exit)) r ⌝ }
 {
     match also {
-        Owner::Connection(_) => put_apart(out, used, connection, reply, also),
+        Owner::Connection(owner) => put_both(out, used, connection, owner, reply),
         Owner::Nobody => {
             if is_one_line(reply) {
                 return output::put_around(out, used, connection, size);
             }
-            put_apart(out, used, connection, reply, also)
+            put_alone(out, used, connection, reply)
         }
     }
 }

@@ -5,3 +5,4 @@ pub mod Writing
 pub mod Hearing
 pub mod Timing
 pub mod Serving
+pub mod Scripting

@@ -6,3 +6,4 @@ pub mod Hearing
 pub mod Timing
 pub mod Serving
 pub mod Connections
+pub mod Scripting

@@ -1,6 +1,5 @@
 // The bench: a hub on standard input and output. It reads what there is, in blocks, and writes every answer to that before it reads
 // again, so that whoever is at the other end sees each reply at once, and a long script needs no more memory than a short one.
-use crate::input::Input;
 use crate::state::Begun;
 use crate::state::State;
 use hub::Hub;
@@ -8,14 +7,15 @@ use hub::HubChange;
 use hub::Store;
 use libc::STDIN_FILENO;
 use libc::STDOUT_FILENO;
+use script::input::Input;
+use script::turn;
 ghost use Prim.Native.Nat.{_≤_};
+ghost use lib.ListN.{length};
 ghost use Rattle.hub.specs.Record.{SoundHub};
 
-mod input;
 mod output;
 mod scan;
 mod state;
-mod turn;
 
 fn flushed(state: State, out: &[u8]) -> State
     requires { ⌜ SoundHub (state .hub) ⌝ }
@@ -59,7 +59,7 @@ fn taken(begun: Begun, line: &mut [u8], part: &[u8]) -> Begun {
 // The rest of a line, which an LF ends. One that came whole is not copied.
 fn ended(begun: Begun, line: &mut [u8], part: &[u8]) -> Begun {
     if begun.size == 0 {
-        if part.len() <= input::MOST_BYTES {
+        if part.len() <= Begun::MOST_BYTES {
             return begun;
         }
     }
@@ -76,7 +76,7 @@ fn line_of<'a>(begun: Begun, part: &'a [u8], line: &'a [u8]) -> &'a [u8] {
 
 // The bytes of a block. The hub is changed in its place, and not copied for a line.
 fn fed(state: State, store: &mut Store, line: &mut [u8], out: &mut [u8], block: &[u8]) -> State
-    requires { ⌜ SoundHub (state .hub) ⌝ }
+    requires { ⌜ SoundHub (state .hub) × (1024 ≤ length (now out)) ⌝ }
     ensures { λ r. ⌜ SoundHub (r .hub) ⌝ }
 {
     let mut hub = state.hub;
@@ -95,9 +95,9 @@ fn fed(state: State, store: &mut Store, line: &mut [u8], out: &mut [u8], block: 
         let text = line_of(all, part, line);
         let from = output::with_room(out, used);
         begun = Begun::nothing();
-        match input::input_of(text) {
+        match script::input::input_of(text) {
             Input::Other => {
-                used = output::put_refusal(out, from, 0);
+                used = turn::other(out, from);
                 i = next;
             }
             Input::Line(connection, at) => {
@@ -153,7 +153,7 @@ fn end(state: State) {
 // down from a number that no run uses up.
 fn run() {
     let mut store = [0u16; Hub::COUNTS];
-    let mut line = [0u8; input::MOST_BYTES];
+    let mut line = [0u8; Begun::MOST_BYTES];
     let mut out = [0u8; 65536];
     let mut block = [0u8; 65536];
     let mut state = State::fresh();

@@ -16,18 +16,6 @@ pub fn behind(text: &[u8], at: usize) -> &[u8] {
     if at <= text.len() { &text[at..] } else { text }
 }
 
-// The place so many bytes behind another, or the end of a text that has no such place.
-pub fn within(text: &[u8], at: usize, more: usize) -> usize
-    ensures { λ r. ⌜ r ≤ length (now (text .entry)) ⌝ }
-{
-    if at < text.len() {
-        if more < text.len() - at {
-            return at + more;
-        }
-    }
-    text.len()
-}
-
 // A byte as a number.
 fn wide(b: u8) -> u64 {
     b as u64

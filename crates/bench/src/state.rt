@@ -9,6 +9,10 @@ pub struct Begun {
 }
 
 impl Begun {
+    // The longest line that needs to be kept: ten digits, a space and a request of 4,096 bytes, and one byte more, so that a longer
+    // request is seen to be one.
+    pub const MOST_BYTES: usize = 4108;
+
     pub fn nothing() -> Self {
         Begun {
             size: 0,

@@ -4,6 +4,7 @@ use mathlib.Core.Path.{_≡_, refl}
 use native.Mathlib.Omega.{arith}
 use lib.ListN.{length}
 use Rattle.hub.specs.Record.{SoundHub}
+use Rattle.script.proofs.Keeping.{changed-in-range, changed-sound, made-sound, reading-keeps, closing-keeps, waiting-keeps}
 use borrow.Author.Needs.{needs}
 use Rattle.bench.proofs.fed.Statement.{statement}
 use Rattle.bench.proofs.fed.Tie as tie
@@ -17,7 +18,7 @@ abbrev μ-loop : tie.MeasureT-loop
 μ-loop store₀ line₀ out₀ block hub₀ begun₀ used₀ i₀ store line out hub begun used i = length block - i
 
 loop-holds : tie.Need-loop-holds Inv-loop μ-loop
-loop-holds c = (c .before .before .before .before .before .pre, refl, refl)
+loop-holds c = (c .before .before .before .before .before .pre .0, refl, refl)
 
 line-end-requires : tie.Need-line-end-requires Inv-loop μ-loop
 line-end-requires c κs = search needs
@@ -53,7 +54,7 @@ line-of-requires : tie.Need-line-of-requires Inv-loop μ-loop
 line-of-requires c κs = search needs
 
 with-room-requires : tie.Need-with-room-requires Inv-loop μ-loop
-with-room-requires c κs = search needs
+with-room-requires c κs = omega (arith, c .before .before .before .before .before .before .before .before .before .before .before .loop .inv, c .before .before .before .before .before .before .before .before .before .before .before .before .before .before .before .before .before .pre)
 
 nothing-requires : tie.Need-nothing-requires Inv-loop μ-loop
 nothing-requires c κs = search needs
@@ -64,8 +65,8 @@ input-of-requires c κs = search needs
 enum-told : tie.Need-enum-told Inv-loop μ-loop
 enum-told c = search needs
 
-put-refusal-requires : tie.Need-put-refusal-requires Inv-loop μ-loop
-put-refusal-requires c κs = search needs
+other-requires : tie.Need-other-requires Inv-loop μ-loop
+other-requires c κs = omega arith
 
 loop-less : tie.Need-loop-less Inv-loop μ-loop
 loop-less c =
@@ -79,7 +80,7 @@ loop-again c =
     let answer = c .before .before in
     let whole = answer .before .before .before .before .before .before .before .before .before .before .before .before in
     let start = whole .before .before .before .before .before .before in
-    (start .loop .inv .0, omega (arith, start .loop .inv, whole .ended .kept), omega (arith, start .loop .inv, answer .put-refusal .kept))
+    (start .loop .inv .0, omega (arith, start .loop .inv, whole .ended .kept), omega (arith, start .loop .inv, answer .other .kept))
 
 enum-known-connection : tie.Need-enum-known-connection Inv-loop μ-loop
 enum-known-connection c = search needs
@@ -88,9 +89,7 @@ behind-requires : tie.Need-behind-requires Inv-loop μ-loop
 behind-requires c κs = search needs
 
 line-requires : tie.Need-line-requires Inv-loop μ-loop
-line-requires c κs =
-    let whole = c .before .before .before .before .before .before .before .before .before .before .before .before .before .before in
-    whole .before .before .before .before .before .before .loop .inv .0
+line-requires c κs = (c .before .before .before .before .before .before .before .before .before .before .before .before .before .before .before .before .before .before .before .before .loop .inv .0, omega arith)
 
 enum-told-2 : tie.Need-enum-told-2 Inv-loop μ-loop
 enum-told-2 c = search needs
@@ -113,10 +112,14 @@ enum-known-change : tie.Need-enum-known-change Inv-loop μ-loop
 enum-known-change c = search needs
 
 mul-connector : tie.Need-mul-connector Inv-loop μ-loop
-mul-connector c = omega (arith, rw (c .before .change .given .1) at (c .before .before .before .before .before .line3 .ensures .0))
+mul-connector c =
+    let told = c .before .before .before .before .before in
+    omega (arith, rw (c .before .change .given .1) at (changed-in-range _ _ _ _ _ (told .line3 .ensures)))
 
 element-set-from-connector : tie.Need-element-set-from-connector Inv-loop μ-loop
-element-set-from-connector c = omega (arith, rw (c .before .change .given .1) at (c .before .before .before .before .before .line3 .ensures .0))
+element-set-from-connector c =
+    let told = c .before .before .before .before .before in
+    omega (arith, rw (c .before .change .given .1) at (changed-in-range _ _ _ _ _ (told .line3 .ensures)))
 
 loop-less-3 : tie.Need-loop-less-3 Inv-loop μ-loop
 loop-less-3 c =
@@ -130,7 +133,7 @@ loop-again-3 c =
     let answer = c .before .before .before .before .before in
     let whole = answer .before .before .before .before .before .before .before .before .before .before .before .before .before .before .before in
     let start = whole .before .before .before .before .before .before in (
-      rw (c .before .change .given .1) at (answer .line3 .ensures .1),
+      rw (c .before .change .given .1) at (changed-sound _ _ _ _ _ (answer .line3 .ensures) (start .loop .inv .0)),
       omega (arith, start .loop .inv, whole .ended .kept),
       omega (arith, start .loop .inv, answer .line3 .kept),
     )
@@ -139,10 +142,14 @@ enum-known-change-2 : tie.Need-enum-known-change-2 Inv-loop μ-loop
 enum-known-change-2 c = search needs
 
 mul-hub : tie.Need-mul-hub Inv-loop μ-loop
-mul-hub c = omega (arith, rw (c .before .change2 .given .1) at (c .before .before .before .before .before .line3 .ensures .0))
+mul-hub c =
+    let told = c .before .before .before .before .before in
+    omega (arith, rw (c .before .change2 .given .1) at (changed-in-range _ _ _ _ _ (told .line3 .ensures)))
 
 element-write-hub : tie.Need-element-write-hub Inv-loop μ-loop
-element-write-hub c = omega (arith, rw (c .before .change2 .given .1) at (c .before .before .before .before .before .line3 .ensures .0))
+element-write-hub c =
+    let told = c .before .before .before .before .before in
+    omega (arith, rw (c .before .change2 .given .1) at (changed-in-range _ _ _ _ _ (told .line3 .ensures)))
 
 loop-less-4 : tie.Need-loop-less-4 Inv-loop μ-loop
 loop-less-4 c =
@@ -156,7 +163,7 @@ loop-again-4 c =
     let answer = c .before .before .before .before .before in
     let whole = answer .before .before .before .before .before .before .before .before .before .before .before .before .before .before .before in
     let start = whole .before .before .before .before .before .before in (
-      rw (c .before .change2 .given .1) at (answer .line3 .ensures .1),
+      rw (c .before .change2 .given .1) at (changed-sound _ _ _ _ _ (answer .line3 .ensures) (start .loop .inv .0)),
       omega (arith, start .loop .inv, whole .ended .kept),
       omega (arith, start .loop .inv, answer .line3 .kept),
     )
@@ -165,9 +172,7 @@ enum-known-port : tie.Need-enum-known-port Inv-loop μ-loop
 enum-known-port c = search needs
 
 reading-requires : tie.Need-reading-requires Inv-loop μ-loop
-reading-requires c κs =
-    let whole = c .before .before .before .before .before .before .before .before .before .before .before .before in
-    whole .before .before .before .before .before .before .loop .inv .0
+reading-requires c κs = omega arith
 
 loop-less-5 : tie.Need-loop-less-5 Inv-loop μ-loop
 loop-less-5 c =
@@ -180,16 +185,17 @@ loop-again-5 : tie.Need-loop-again-5 Inv-loop μ-loop
 loop-again-5 c =
     let answer = c .before .before .before in
     let whole = answer .before .before .before .before .before .before .before .before .before .before .before .before .before in
-    let start = whole .before .before .before .before .before .before in
-    (answer .reading .ensures, omega (arith, start .loop .inv, whole .ended .kept), omega (arith, start .loop .inv, answer .reading .kept))
+    let start = whole .before .before .before .before .before .before in (
+      made-sound (answer .reading .ensures) (reading-keeps _ (start .loop .inv .0) _ _),
+      omega (arith, start .loop .inv, whole .ended .kept),
+      omega (arith, start .loop .inv, answer .reading .kept),
+    )
 
 enum-known-connection-2 : tie.Need-enum-known-connection-2 Inv-loop μ-loop
 enum-known-connection-2 c = search needs
 
 closing-requires : tie.Need-closing-requires Inv-loop μ-loop
-closing-requires c κs =
-    let whole = c .before .before .before .before .before .before .before .before .before .before .before .before in
-    whole .before .before .before .before .before .before .loop .inv .0
+closing-requires c κs = omega arith
 
 loop-less-6 : tie.Need-loop-less-6 Inv-loop μ-loop
 loop-less-6 c =
@@ -202,16 +208,17 @@ loop-again-6 : tie.Need-loop-again-6 Inv-loop μ-loop
 loop-again-6 c =
     let answer = c .before .before .before in
     let whole = answer .before .before .before .before .before .before .before .before .before .before .before .before .before in
-    let start = whole .before .before .before .before .before .before in
-    (answer .closing .ensures, omega (arith, start .loop .inv, whole .ended .kept), omega (arith, start .loop .inv, answer .closing .kept))
+    let start = whole .before .before .before .before .before .before in (
+      made-sound (answer .closing .ensures) (closing-keeps _ (start .loop .inv .0) _),
+      omega (arith, start .loop .inv, whole .ended .kept),
+      omega (arith, start .loop .inv, answer .closing .kept),
+    )
 
 enum-known-micros : tie.Need-enum-known-micros Inv-loop μ-loop
 enum-known-micros c = search needs
 
 waiting-requires : tie.Need-waiting-requires Inv-loop μ-loop
-waiting-requires c κs =
-    let whole = c .before .before .before .before .before .before .before .before .before .before .before .before in
-    whole .before .before .before .before .before .before .loop .inv .0
+waiting-requires c κs = (c .before .before .before .before .before .before .before .before .before .before .before .before .before .before .before .before .before .before .loop .inv .0, omega arith)
 
 loop-less-7 : tie.Need-loop-less-7 Inv-loop μ-loop
 loop-less-7 c =
@@ -224,8 +231,11 @@ loop-again-7 : tie.Need-loop-again-7 Inv-loop μ-loop
 loop-again-7 c =
     let answer = c .before .before .before in
     let whole = answer .before .before .before .before .before .before .before .before .before .before .before .before .before in
-    let start = whole .before .before .before .before .before .before in
-    (answer .waiting .ensures, omega (arith, start .loop .inv, whole .ended .kept), omega (arith, start .loop .inv, answer .waiting .kept))
+    let start = whole .before .before .before .before .before .before in (
+      made-sound (answer .waiting .ensures) (waiting-keeps _ (start .loop .inv .0) _),
+      omega (arith, start .loop .inv, whole .ended .kept),
+      omega (arith, start .loop .inv, answer .waiting .kept),
+    )
 
 same-length-3 : tie.Need-same-length-3 Inv-loop μ-loop
 same-length-3 c = search needs
@@ -258,7 +268,7 @@ fed-spec =
     nothing-requires
     input-of-requires
     enum-told
-    put-refusal-requires
+    other-requires
     loop-less
     loop-again
     enum-known-connection

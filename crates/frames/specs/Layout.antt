@@ -1,5 +1,5 @@
 -- What a frame is, apart from how one is taken apart: the tables of docs/PORT.md.
-use Prim.Native.Nat.{ℕ, _+_, _*_, _/_, _%_}
+use Prim.Native.Nat.{ℕ, _+_, _*_, _/_, _%_, _^_, _≤_, _<_}
 use Prim.Native.String.{String}
 use mathlib.Core.Bool.{_&&_}
 use mathlib.Core.List.{List, [], _∷_, _++_, map}
@@ -74,3 +74,34 @@ encoded (reading port value) = frameOf (letter "r") port (value ∷ [])
 encoded (wait any n) = frameOf (letter "w") any (fourBytes n)
 encoded (carriers any) = frameOf (letter "c") any []
 encoded (due any) = frameOf (letter "d") any []
+
+-- what it says, where it can be said: a piece is one of the eight connections', and its bytes and a wait's microseconds are within what a
+-- frame can count
+unfoldable pub meant : Input → List Said
+meant (piece connection s) = map (stream connection) s
+meant (closed connection) = event (Closed connection) ∷ []
+meant (reading port value) = event (Reading port value) ∷ []
+meant (wait any n) = event (Wait any (micros n)) ∷ []
+meant (carriers any) = event Carriers ∷ []
+meant (due any) = event Due ∷ []
+
+abbrev pub Sayable : Input → Type 0
+Sayable (piece connection s) = (connection ≤ 7) × (length s ≤ 65535)
+Sayable (closed connection) = Unit
+Sayable (reading port value) = Unit
+Sayable (wait any n) = n < 256 ^ 4
+Sayable (carriers any) = Unit
+Sayable (due any) = Unit
+
+-- inputs one after the other
+abbrev pub encodedAll : List Input → List ℕ
+encodedAll [] = []
+encodedAll (i ∷ l) = encoded i ++ encodedAll l
+
+abbrev pub meantAll : List Input → List Said
+meantAll [] = []
+meantAll (i ∷ l) = meant i ++ meantAll l
+
+abbrev pub SayableAll : List Input → Type 0
+SayableAll [] = Unit
+SayableAll (i ∷ l) = Sayable i × SayableAll l

@@ -2,7 +2,7 @@
 -- What a whole frame is stands in Layout; that the bytes of any frame give exactly that is proved in proofs/Reading.antt.
 use Prim.Native.Nat.{ℕ, _+_, _-_, _*_, _^_, _≤_, _<_}
 use mathlib.Core.Bool.{cond}
-use mathlib.Core.List.{List, [], _∷_}
+use mathlib.Core.List.{[], _∷_}
 use lib.Dec.{eqb, ltb}
 use Rattle.laws.specs.Checks.{_⇒_, first}
 use Rattle.pace.specs.Pace.{micros}

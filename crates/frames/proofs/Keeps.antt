@@ -1,16 +1,20 @@
 -- A frame in hand stays sound.
-use Prim.Native.Nat.{ℕ, _+_, _*_, _^_, _≤_, _<_}
+use Prim.Native.Nat.{ℕ, suc, _+_, _*_, _^_, _≤_, _<_}
+use mathlib.Core.List.{List, [], _∷_}
 use native.Mathlib.Nat.{pow-succ'}
 use native.Mathlib.Numerals.{add-one}
 use native.Mathlib.Omega.{arith}
 use lib.Dec.{eqb, ltb}
+use lib.ListN.{length, getD}
 use borrow.Author.Tests.{eqb-false, ltb-false}
 use Rattle.laws.proofs.Choice.{cond-case}
 use Rattle.frames.specs.declared.Frame.{Frame}
 use Rattle.frames.specs.declared.Frame.the-variants as frame
 use Rattle.frames.specs.declared.Step.{Step}
+use Rattle.frames.specs.declared.Read.{Read}
 use Rattle.frames.specs.Layout.{letter}
 use Rattle.frames.specs.Read.{SoundFrame, pieceOf, passing, whole, pieceStep, waitStep, headStep, nextStep}
+use Rattle.frames.specs.Read.{goesOn, reading, counting, readOf}
 
 pub between-sound : SoundFrame frame.Between
 between-sound = tt
@@ -69,3 +73,26 @@ next-sound (frame.Reading port) b h s = tt
 next-sound (frame.Wait connection come number) b h s =
     wait-step-sound connection (come + 1) (number * 256 + b) (omega (arith, s .0)) (rw (add-one, pow-succ') (omega (arith, s .1)))
 next-sound (frame.Over left) b h s = passing-sound _
+
+-- ---- a run of bytes of heads and numbers
+
+read-case : (P : Read → Type 0) (f : Frame) (b : ℕ) (s : List ℕ) → P (counting 1 (readOf (nextStep f b .frame) s)) → P (reading (nextStep f b) 1)
+    → P (readOf f (b ∷ s))
+read-case P f b s on stop = cond-case P (goesOn (nextStep f b)) _ _ (λ _. on) (λ _. stop)
+
+pub read-sound : (f : Frame) (s : List ℕ) → ((i : ℕ) → getD s i 0 < 256) → SoundFrame f → SoundFrame (readOf f s .frame)
+read-sound f [] bytes k = k
+read-sound f (b ∷ s) bytes k =
+    let next = next-sound f b (bytes 0) k in
+    read-case (λ (r : Read). SoundFrame (r .frame)) f b s (read-sound (nextStep f b .frame) s (λ i. bytes (suc i)) next) next
+
+-- it uses no more than there is, and where there is something, something
+pub read-within : (f : Frame) (s : List ℕ) → readOf f s .used ≤ length s
+read-within f [] = omega arith
+read-within f (b ∷ s) =
+    let rest = read-within (nextStep f b .frame) s in
+    read-case (λ (r : Read). r .used ≤ suc (length s)) f b s (omega arith) (omega arith)
+
+pub read-some : (f : Frame) (s : List ℕ) → 0 < length s → 0 < readOf f s .used
+read-some f [] h = absurd (omega arith)
+read-some f (b ∷ s) h = read-case (λ (r : Read). 0 < r .used) f b s (omega arith) (omega arith)

@@ -2,13 +2,14 @@
 -- frames of any inputs say these inputs.
 use Prim.Native.Nat.{ℕ, suc, _+_, _-_, _*_, _/_, _%_, _^_, _≤_, _<_}
 use mathlib.Core.Path.{_≡_, refl, ap, _∙_}
-use mathlib.Core.Bool.{cond}
+use mathlib.Core.Bool.{true, false, cond}
 use mathlib.Core.List.{List, [], _∷_, _++_, map, append-nil, append-assoc}
 use native.Mathlib.Omega.{arith}
 use lib.Dec.{eqb, leb, ltb}
-use lib.ListN.{length}
+use lib.ListN.{length, drop, getD, drop-of-length-le}
 use borrow.Author.Tests.{eqb-true, ltb-true, ltb-false, ne-eqb, lt-leb, le-leb}
 use Rattle.laws.proofs.Choice.{by-test}
+use Rattle.laws.proofs.Lists.{drop-next}
 use Rattle.pace.specs.Pace.{micros}
 use Rattle.frames.specs.declared.Frame.{Frame}
 use Rattle.frames.specs.declared.Frame.the-variants as frame
@@ -18,6 +19,8 @@ use Rattle.frames.specs.declared.Step.{Step}
 use Rattle.frames.specs.Layout.{letter, fourBytes, numberOf, frameOf, Said, stream, event as says, refused, saidBy}
 use Rattle.frames.specs.Layout.{Input, piece, closed, reading, wait, carriers, due, encoded, meant, Sayable, encodedAll, meantAll, SayableAll}
 use Rattle.frames.specs.Read.{pieceOf, passing, more, gives, other, whole, pieceStep, waitStep, headStep, nextStep}
+use Rattle.frames.specs.Read.{SoundFrame, goesOn, reading as readingOf, counting, readOf}
+use Rattle.frames.proofs.Keeps.{next-sound}
 use Rattle.frames.specs.Feed.{told, Heard, heard}
 
 -- so much was said, and the frame is at its end
@@ -146,3 +149,43 @@ heard-append f (b ∷ s) t = rw (heard-append (nextStep f b .frame) s t, append-
 pub inputs-read : (l : List Input) → SayableAll l → heard frame.Between (encodedAll l) ≡ record { says = meantAll l; frame = frame.Between }
 inputs-read [] h = refl
 inputs-read (i ∷ l) h = heard-append frame.Between (encoded i) (encodedAll l) ∙ rw (input-read i (h .0), inputs-read l (h .1))
+
+-- ---- a run of bytes until something is complete
+
+-- the next byte
+read-next : (f : Frame) (s : List ℕ) (i : ℕ) → i < length s
+    → readOf f (drop i s) ≡ readOf f (getD s i 0 ∷ drop (i + 1) s)
+read-next f s i less = ap (readOf f) (drop-next s i 0 less)
+
+-- so far: what is left gives the same
+pub record Runs (begun : Frame) (s : List ℕ) (f : Frame) (i : ℕ) : Type 0 where
+  pub sound : SoundFrame f
+  pub within : i ≤ length s
+  pub same : counting i (readOf f (drop i s)) ≡ readOf begun s
+
+pub runs-start : (f : Frame) (s : List ℕ) → SoundFrame f → Runs f s f 0
+runs-start f s sound =
+    let e : 0 + readOf f s .used ≡ readOf f s .used = omega arith in
+    record { sound = sound; within = omega arith; same = rw e }
+
+module _ {begun : Frame} {s : List ℕ} {f : Frame} {i : ℕ} (now : Runs begun s f i) {x : Step} (is : x ≡ nextStep f (getD s i 0)) (less : i < length s) where
+  pub runs-on : getD s i 0 < 256 → goesOn x ≡ true → Runs begun s (x .frame) (i + 1)
+  runs-on byte on =
+      let rest = readOf (nextStep f (getD s i 0) .frame) (drop (i + 1) s) in
+      let t : goesOn (nextStep f (getD s i 0)) ≡ true = rw is at on in
+      let e : i + (1 + rest .used) ≡ i + 1 + rest .used = omega arith in
+      record {
+        sound = rw is (next-sound f (getD s i 0) byte (now .sound));
+        within = omega arith;
+        same = rw is (rw (read-next f s i less, t, e) at (now .same));
+      }
+
+  pub runs-stop : goesOn x ≡ false → readingOf x (i + 1) ≡ readOf begun s
+  runs-stop stop =
+      let t : goesOn (nextStep f (getD s i 0)) ≡ false = rw is at stop in
+      rw is (rw (read-next f s i less, t) at (now .same))
+
+pub runs-end : {begun : Frame} {s : List ℕ} {f : Frame} {i : ℕ} → Runs begun s f i → length s ≤ i → readingOf (more f) i ≡ readOf begun s
+runs-end {begun} {s} {f} {i} now done =
+    let e : i + 0 ≡ i = omega arith in
+    rw (drop-of-length-le s done, e) at (now .same)

@@ -1,8 +1,8 @@
 -- A frame taken apart byte by byte, as it comes. docs/PORT.md: "a piece's bytes are served as they come, all other frames when they are whole."
 -- What a whole frame is stands in Layout; that the bytes of any frame give exactly that is proved in proofs/Reading.antt.
 use Prim.Native.Nat.{ℕ, _+_, _-_, _*_, _^_, _≤_, _<_}
-use mathlib.Core.Bool.{cond}
-use mathlib.Core.List.{[], _∷_}
+use mathlib.Core.Bool.{Bool, true, false, cond, _&&_}
+use mathlib.Core.List.{List, [], _∷_}
 use lib.Dec.{eqb, ltb}
 use Rattle.laws.specs.Checks.{_⇒_, first}
 use Rattle.pace.specs.Pace.{micros}
@@ -11,6 +11,9 @@ use Rattle.frames.specs.declared.Frame.the-variants as frame
 use Rattle.frames.specs.declared.Event.{Event}
 use Rattle.frames.specs.declared.Event.the-variants as event
 use Rattle.frames.specs.declared.Step.{Step}
+use Rattle.frames.specs.declared.Part.{Part}
+use Rattle.frames.specs.declared.Part.the-variants as part
+use Rattle.frames.specs.declared.Read.{Read}
 use Rattle.frames.specs.Layout.{letter}
 
 -- what every frame in hand has that bytes gave
@@ -76,3 +79,45 @@ nextStep (frame.Piece connection left) b = more (pieceOf connection (left - 1))
 nextStep (frame.Reading port) b = gives (event.Reading port b)
 nextStep (frame.Wait connection come number) b = waitStep connection (come + 1) (number * 256 + b)
 nextStep (frame.Over left) b = more (passing (left - 1))
+
+-- ---- the bytes of heads and numbers
+
+-- what the next byte is of
+abbrev pub partOf : Frame → Part
+partOf frame.Between = part.Head
+partOf (frame.Kind kind) = part.Head
+partOf (frame.Connection kind connection) = part.Head
+partOf (frame.High kind connection high) = part.Head
+partOf (frame.Piece connection left) = part.Piece connection left
+partOf (frame.Reading port) = part.Head
+partOf (frame.Wait connection come number) = part.Head
+partOf (frame.Over left) = part.Over left
+
+abbrev pub isHead : Part → Bool
+isHead part.Head = true
+isHead (part.Piece connection left) = false
+isHead (part.Over left) = false
+
+abbrev pub isNothing : Event → Bool
+isNothing event.Nothing = true
+isNothing (event.Closed connection) = false
+isNothing (event.Reading port value) = false
+isNothing (event.Wait connection micros) = false
+isNothing event.Carriers = false
+isNothing event.Due = false
+isNothing (event.Refused connection number) = false
+
+-- nothing is complete, and the next byte is of a head or a number
+abbrev pub goesOn : Step → Bool
+goesOn step = isNothing (step .event) && isHead (partOf (step .frame))
+
+abbrev pub reading : Step → ℕ → Read
+reading step used = record { frame = step .frame; event = step .event; used = used }
+
+abbrev pub counting : ℕ → Read → Read
+counting n r = record { frame = r .frame; event = r .event; used = n + r .used }
+
+-- until something is complete or a byte is of another part
+abbrev pub readOf : Frame → List ℕ → Read
+readOf f [] = reading (more f) 0
+readOf f (b ∷ s) = cond (goesOn (nextStep f b)) (counting 1 (readOf (nextStep f b .frame) s)) (reading (nextStep f b) 1)

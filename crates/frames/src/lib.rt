@@ -3,6 +3,7 @@
 use pace::Micros;
 ghost use mathlib.Core.Path.{_≡_};
 ghost use Prim.Native.Nat.{_+_, _*_};
+ghost use Rattle.frames.specs.Read.{partOf, isHead, isNothing, goesOn, readOf};
 ghost use Rattle.frames.specs.Read.{SoundFrame, pieceOf, passing, nextStep, more, gives, other, whole, pieceStep, waitStep, headStep};
 
 // The frame in hand, as far as its bytes have come.
@@ -52,6 +53,65 @@ pub enum Event {
 pub struct Step {
     pub frame: Frame,
     pub event: Event,
+}
+
+// What the next byte is of: a frame's head or number, a piece, or a frame that is passed over.
+pub enum Part {
+    Head,
+    Piece { connection: u8, left: usize },
+    Over(usize),
+}
+
+// What bytes gave: the frame behind them, what they complete, and how many they were.
+pub struct Read {
+    pub frame: Frame,
+    pub event: Event,
+    pub used: usize,
+}
+
+fn is_nothing(event: Event) -> bool
+    ensures { λ r. ⌜ r ≡ isNothing event ⌝ }
+{
+    match event {
+        Event::Nothing => true,
+        Event::Closed(_) => false,
+        Event::Reading { port: _, value: _ } => false,
+        Event::Wait {
+            connection: _,
+            micros: _,
+        } => false,
+        Event::Carriers => false,
+        Event::Due => false,
+        Event::Refused {
+            connection: _,
+            number: _,
+        } => false,
+    }
+}
+
+fn is_head(part: Part) -> bool
+    ensures { λ r. ⌜ r ≡ isHead part ⌝ }
+{
+    match part {
+        Part::Head => true,
+        Part::Piece {
+            connection: _,
+            left: _,
+        } => false,
+        Part::Over(_) => false,
+    }
+}
+
+// Whether nothing is complete and the next byte is of a head or a number.
+fn goes_on(step: Step) -> bool
+    ensures { λ r. ⌜ r ≡ goesOn step ⌝ }
+{
+    let frame = step.frame;
+    let event = step.event;
+    if is_nothing(event) {
+        return is_head(frame.part());
+    }
+    false
 }
 
 // The frame goes on.
@@ -180,6 +240,32 @@ impl Frame {
         Frame::Over(left)
     }
 
+    pub fn part(self) -> Part
+        ensures { λ r. ⌜ r ≡ partOf self ⌝ }
+    {
+        match self {
+            Frame::Between => Part::Head,
+            Frame::Kind(_) => Part::Head,
+            Frame::Connection {
+                kind: _,
+                connection: _,
+            } => Part::Head,
+            Frame::High {
+                kind: _,
+                connection: _,
+                high: _,
+            } => Part::Head,
+            Frame::Piece { connection, left } => Part::Piece { connection, left },
+            Frame::Reading(_) => Part::Head,
+            Frame::Wait {
+                connection: _,
+                come: _,
+                number: _,
+            } => Part::Head,
+            Frame::Over(left) => Part::Over(left),
+        }
+    }
+
     // One byte more.
     pub fn next(self, b: u8) -> Step
         requires { ⌜ SoundFrame self ⌝ }
@@ -209,6 +295,34 @@ impl Frame {
                 number,
             } => wait_step(connection, come + 1, number * 256 + wide(b)),
             Frame::Over(left) => more(Frame::passing(left - 1)),
+        }
+    }
+
+    // The bytes of heads and numbers, until something is complete or a byte is of another part.
+    pub fn read(self, s: &[u8]) -> Read
+        requires { ⌜ SoundFrame self ⌝ }
+        ensures { λ r. ⌜ r ≡ readOf self (now (s .entry)) ⌝ }
+    {
+        let mut frame = self;
+        let mut i = 0;
+        while i < s.len() {
+            let step = frame.next(s[i]);
+            i += 1;
+            if !goes_on(step) {
+                let last = step.frame;
+                let event = step.event;
+                return Read {
+                    frame: last,
+                    event,
+                    used: i,
+                };
+            }
+            frame = step.frame;
+        }
+        Read {
+            frame,
+            event: Event::Nothing,
+            used: i,
         }
     }
 }

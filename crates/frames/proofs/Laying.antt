@@ -6,16 +6,21 @@ use mathlib.Core.List.{List, [], _∷_, _++_, append-assoc, append-nil}
 use native.Mathlib.Nat.{pow-le-pow-right}
 use native.Mathlib.Numerals.{add-one}
 use native.Mathlib.Omega.{arith}
-use lib.ListN.{length, take, getD}
+use lib.ListN.{length, take, getD, length-append}
 use lib.Seq.{take-suc, take-all}
 use Rattle.laws.specs.Put.{Put}
 use Rattle.laws.proofs.Put.{over-front, nothing, put-length, then}
 use Rattle.laws.proofs.Slots.{made-of}
 use Rattle.reply.specs.declared.Reply.the-variants.{Complete}
 use Rattle.reply.proofs.Lengths.{reply-fits}
+use Rattle.reply.specs.Reply.{replyText}
+use Rattle.connector.specs.declared.Owner.{Owner}
+use Rattle.connector.specs.declared.Owner.the-variants as owner
+use Rattle.connector.specs.declared.Answer.{Answer}
+use Rattle.connector.specs.declared.Answer.the-variants as answer
 use Rattle.connector.specs.declared.Completion.{Completion}
 use Rattle.frames.specs.Layout.{fourBytes}
-use Rattle.frames.specs.Output.{completionFrame, completionFrames, bit, carriersFrame}
+use Rattle.frames.specs.Output.{replyFrames, answerFrames, completionFrame, completionFrames, bit, carriersFrame}
 
 -- the number of three bytes of a wait at most
 pub wait-small : (come number : ℕ) → come ≤ 3 → number < 256 ^ come → number < 16777216
@@ -27,6 +32,17 @@ moment-length n s = omega arith
 -- a text that was laid at the start of a buffer stands there
 pub laid-text : {b text after : List ℕ} {r : ℕ} → Put b 0 text after r → take r after ≡ text
 laid-text {b} {text} p = rw (p .place, p .laid) (over-front b 0 text (omega arith))
+
+-- a reply to two, at most
+reply-length : (connection : ℕ) (also : Owner) (s : List ℕ) → length (replyFrames connection also s) ≤ 2 * (4 + length s)
+reply-length connection owner.Nobody s = omega arith
+reply-length connection (owner.Connection other) s = rw length-append (omega arith)
+
+pub answer-fits : (connection : ℕ) (a : Answer) → length (answerFrames connection a) ≤ 264
+unfolding answerFrames
+answer-fits connection (answer.Refused number) = omega arith
+answer-fits connection answer.Taken = omega arith
+answer-fits connection (answer.Reply r also) = omega (arith, reply-length connection also (replyText r), reply-fits r)
 
 -- three carriers
 pub carriers-are : (on : List Bool) (d : Bool) → length on ≡ 3

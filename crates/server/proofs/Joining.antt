@@ -69,7 +69,7 @@ module _ (hub : Hub) (store : List ℕ) (connection room : ℕ) where
   found-in buffers part from (found.Refused number) h k = refl
 
   -- what it changes is of a connector or a relay that there is
-  found-changes : (buffer : List ℕ) (f : Found) → InRange (foundStep hub store connection room buffer f .decided .change)
+  pub found-changes : (buffer : List ℕ) (f : Found) → InRange (foundStep hub store connection room buffer f .decided .change)
   found-changes buffer found.Nothing = tt
   found-changes buffer (found.Line size) = line-in-range hub store connection (take size buffer) room
   found-changes buffer found.Overlong = overlong-in-range connection room

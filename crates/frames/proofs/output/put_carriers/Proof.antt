@@ -1,0 +1,60 @@
+-- `frames::output::put_carriers` meets its contract.
+use mathlib.Core.Bool.{false}
+use Rattle.laws.proofs.Put.{then}
+use Rattle.frames.proofs.Laying.{carriers-are}
+use borrow.Author.Needs.{needs}
+use Rattle.frames.proofs.output.put_carriers.Statement.{statement}
+use Rattle.frames.proofs.output.put_carriers.Tie as tie
+
+put-head-requires : tie.Need-put-head-requires
+put-head-requires c κs = search needs
+
+array-read-bit : tie.Need-array-read-bit
+array-read-bit c = search needs
+
+bit-requires : tie.Need-bit-requires
+bit-requires c κs = search needs
+
+put-byte-requires : tie.Need-put-byte-requires
+put-byte-requires c κs = search needs
+
+array-read-bit-2 : tie.Need-array-read-bit-2
+array-read-bit-2 c = search needs
+
+bit-requires-2 : tie.Need-bit-requires-2
+bit-requires-2 c κs = search needs
+
+put-byte-requires-2 : tie.Need-put-byte-requires-2
+put-byte-requires-2 c κs = search needs
+
+array-read-bit-3 : tie.Need-array-read-bit-3
+array-read-bit-3 c = search needs
+
+bit-requires-3 : tie.Need-bit-requires-3
+bit-requires-3 c κs = search needs
+
+put-byte-requires-3 : tie.Need-put-byte-requires-3
+put-byte-requires-3 c κs = search needs
+
+same-length : tie.Need-same-length
+same-length c = search needs
+
+returns : tie.Need-returns
+returns c = rw (carriers-are (c .before .before .before .before .before .before .before .before .before .before .before .before .before .before .before .before .before .before .before .before .args .t3) false (search needs), ← c .before .before .before .before .before .before .before .before .before .before .before .before .before .bit .ensures, ← c .before .before .before .before .before .before .before .before .bit2 .ensures, ← c .before .before .before .bit3 .ensures) (then (then (then (c .before .before .before .before .before .before .before .before .before .before .before .before .before .before .before .before .before .put-head .ensures) (c .before .before .before .before .before .before .before .before .before .before .before .before .put-byte .ensures)) (c .before .before .before .before .before .before .before .put-byte2 .ensures)) (c .before .before .put-byte3 .ensures))
+
+pub put-carriers-spec : {M : Type 1} → statement M
+put-carriers-spec =
+    tie.close
+    (tie.spec
+    put-head-requires
+    array-read-bit
+    bit-requires
+    put-byte-requires
+    array-read-bit-2
+    bit-requires-2
+    put-byte-requires-2
+    array-read-bit-3
+    bit-requires-3
+    put-byte-requires-3
+    same-length
+    returns)

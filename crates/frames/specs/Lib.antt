@@ -1,0 +1,4 @@
+pub mod Layout
+pub mod Read
+pub mod Feed
+pub mod Output

@@ -1,0 +1,4 @@
+pub mod Quiet
+pub mod Pieces
+pub mod Turning
+pub mod Feeding

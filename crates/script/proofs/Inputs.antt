@@ -1,7 +1,7 @@
 -- Laws of a line of the script: its first word, and what it asks for then.
-use Prim.Native.Nat.{ℕ, suc, _+_, _-_, _*_, _≤_, _<_}
+use Prim.Native.Nat.{ℕ, suc, _+_, _-_, _*_, _<_}
 use mathlib.Core.Path.{_≡_, refl, sym, ap, _∙_}
-use mathlib.Core.Bool.{Bool, true, false, not, cond, _&&_}
+use mathlib.Core.Bool.{Bool, true, false, cond, _&&_}
 use mathlib.Core.List.{List, [], _∷_, _++_}
 use native.Mathlib.Numerals.{add-one}
 use native.Mathlib.Omega.{arith}
@@ -9,7 +9,6 @@ use borrow.Author.Tests.{eqb-true, eq-eqb, ne-eqb}
 use lib.Dec.{eqb}
 use lib.ListN.{length, take, drop, getD, length-drop}
 use lib.Seq.{take-all}
-use Rattle.laws.specs.Bytes.{bytes}
 use Rattle.laws.specs.Lists.{same, part, behind, free}
 use Rattle.laws.proofs.Choice.{by-test, not-both, and-false}
 use Rattle.laws.proofs.Cutting.{upTo, part-is, behind-next}
@@ -53,10 +52,10 @@ module _ (s : List ℕ) where
   unfolding isNumber
   two-whole h = rw (whole 32 s h .1) (rw (and-false (isNumber (word 0 s))))
 
-  two-first : isNumber (upTo 32 s) ≡ false → readingIn s ≡ Other
+  pub two-first : isNumber (upTo 32 s) ≡ false → readingIn s ≡ Other
   two-first e = reading-else (rw e)
 
-  two-last : isNumber (behind 32 1 s) ≡ false → readingIn s ≡ Other
+  pub two-last : isNumber (behind 32 1 s) ≡ false → readingIn s ≡ Other
   two-last e = reading-else (rw e (and-false (isNumber (upTo 32 s))))
 
   two-numbers : isNumber (upTo 32 s) ≡ true → isNumber (behind 32 1 s) ≡ true → readingIn s ≡ Reading (worth 0 (upTo 32 s)) (worth 0 (behind 32 1 s))
@@ -72,16 +71,16 @@ module _ (s : List ℕ) where
       let b : behind 32 2 s ≡ [] = sym (behind-next 32 1 s) ∙ ap (behind 32 1) (w .1) in
       rw (f, b, w .1) (simp and-false)
 
-  a-line : length (upTo 32 s) < length s → isNumber (upTo 32 s) ≡ true → inputOf s ≡ Line (worth 0 (upTo 32 s)) (suc (length (upTo 32 s)))
+  pub a-line : length (upTo 32 s) < length s → isNumber (upTo 32 s) ≡ true → inputOf s ≡ Line (worth 0 (upTo 32 s)) (suc (length (upTo 32 s)))
   unfolding inputOf
   a-line h e = rw (part-is 32 0 s, e, parted-free 32 s h)
 
-  long-word : isNumber (upTo 32 s) ≡ false → (length (upTo 32 s) ≡ 1 → ⊥) → inputOf s ≡ Other
+  pub long-word : isNumber (upTo 32 s) ≡ false → (length (upTo 32 s) ≡ 1 → ⊥) → inputOf s ≡ Other
   unfolding inputOf
   long-word e ne =
       rw (part-is 32 0 s, e, other-length 114 (upTo 32 s) ne, other-length 120 (upTo 32 s) ne, other-length 119 (upTo 32 s) ne)
 
-  a-call : length (upTo 32 s) < length s → isNumber (upTo 32 s) ≡ false → length (upTo 32 s) ≡ 1
+  pub a-call : length (upTo 32 s) < length s → isNumber (upTo 32 s) ≡ false → length (upTo 32 s) ≡ 1
       → inputOf s ≡ callIn (getD s 0 0) (drop 2 s)
   unfolding inputOf
   a-call h e one =

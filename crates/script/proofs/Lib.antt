@@ -6,4 +6,5 @@ pub mod Replies
 pub mod Printing
 pub mod Turning
 pub mod Keeping
+pub mod Kept
 pub mod Examples

@@ -9,7 +9,7 @@ use lib.Dec.{eqb}
 use lib.ListN.{length, set, length-append}
 use Rattle.laws.specs.Bytes.{bytes}
 use Rattle.laws.specs.Put.{over, Put}
-use Rattle.laws.specs.Lists.{all, cut, free}
+use Rattle.laws.specs.Lists.{cut, free}
 use Rattle.laws.proofs.Choice.{not-both}
 use Rattle.laws.proofs.Joining.{cut-next}
 use Rattle.laws.proofs.Lists.{all-append, all-weaker}

@@ -1,5 +1,5 @@
 -- `script::output::put_completion` meets its contract.
-use mathlib.Core.Path.{sym, _∙_}
+use mathlib.Core.Path.{sym}
 use native.Mathlib.Omega.{arith}
 use lib.Seq.{length-take-le}
 use Rattle.laws.proofs.Put.{then, put-length}

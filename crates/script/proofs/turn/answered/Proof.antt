@@ -2,7 +2,6 @@
 use denote.Ref.{now}
 use lib.ListN.{length}
 use mathlib.Core.Path.{refl}
-use native.Mathlib.Omega.{arith}
 use Rattle.script.specs.Turn.{lineOutcome}
 use Rattle.script.proofs.Turning.{line-roomy, overlong-roomy}
 use borrow.Author.Needs.{needs}

@@ -2,13 +2,14 @@
 use Prim.Native.Nat.{ℕ, _+_, _-_, _≤_, _<_}
 use mathlib.Core.Path.{_≡_, sym, _∙_}
 use mathlib.Core.List.{List, [], _++_, append-nil, append-assoc}
-use mathlib.Core.Logic.{_⊎_}
+use mathlib.Core.Logic.{_⊎_, inl, inr}
 use native.Mathlib.Omega.{arith}
 use lib.ListN.{length, take, drop, getD, length-drop}
 use lib.Seq.{getD-drop, take-all}
 use Rattle.laws.specs.Put.{Put}
 use Rattle.laws.proofs.Put.{nothing, put-length, then}
 use Rattle.server.specs.Record.{allBuffers}
+use Rattle.port.specs.declared.Progress.{Progress}
 use Rattle.port.specs.declared.turn.Turned.{Turned}
 use Rattle.port.specs.Turn.{SoundState, Whole, whole, after, turnOf, Turns}
 use Rattle.port.specs.Run.{turnRoom, Runs, stops, turns, Feeds}
@@ -86,3 +87,41 @@ module _ {block : List ℕ} {from : ℕ} {begun : Whole} {before : List ℕ} {w 
         runs = rw append-nil at (now .leads (length out - o) i [] w (omega (arith, feeding-room, room)) (stops why));
         put = now .put;
       }
+
+-- ---- what a run leaves, for the next one
+
+-- it goes forward
+runs-past : {block text : List ℕ} {room i j : ℕ} {w v : Whole} → Runs block room i w text j v → i ≤ j
+runs-past (stops why) = omega arith
+runs-past (turns less room r) = omega (arith, runs-past r)
+
+module _ (block : List ℕ) (bytes : (k : ℕ) → getD block k 0 < 256) where
+  turn-at : (i : ℕ) (w : Whole) → SoundState (w .state) → length (w .buffers) ≡ allBuffers → Keeps w (drop i block) (turnOf w (drop i block))
+  turn-at i w sound long = turn-keeps w (drop i block) sound long (λ k. rw getD-drop (bytes (i + k)))
+
+  -- the state stays sound, and the buffers as long as they are
+  runs-keep : {text : List ℕ} {room i j : ℕ} {w v : Whole} → Runs block room i w text j v → SoundState (w .state) → length (w .buffers) ≡ allBuffers
+      → SoundState (v .state) × (length (v .buffers) ≡ allBuffers)
+  runs-keep (stops why) sound long = (sound, long)
+  runs-keep (turns {i = i} {w = w} less room r) sound long =
+      let x = turn-at i w sound long in
+      runs-keep r (x .sound) (x .long ∙ long)
+
+  -- where there is a byte and room, a byte is used
+  runs-some : {text : List ℕ} {room i j : ℕ} {w v : Whole} → Runs block room i w text j v → SoundState (w .state) → length (w .buffers) ≡ allBuffers
+      → i < length block → turnRoom ≤ room → i < j
+  runs-some (stops (inl end)) sound long less room = absurd (omega arith)
+  runs-some (stops (inr full)) sound long less room = absurd (omega arith)
+  runs-some (turns {i = i} {w = w} less room r) sound long less' room' =
+      omega (arith, runs-past r, turn-at i w sound long .some (rw length-drop (omega arith)))
+
+  module _ {from : ℕ} {w : Whole} {before : List ℕ} {r : Progress} {store buffers out : List ℕ} (f : Feeds block from w before r store buffers out)
+      (sound : SoundState (w .state)) (long : length (w .buffers) ≡ allBuffers) where
+    pub fed-sound : SoundState (r .state)
+    fed-sound = runs-keep (f .runs) sound long .0
+
+    pub fed-long : length buffers ≡ allBuffers
+    fed-long = runs-keep (f .runs) sound long .1
+
+    pub fed-some : from < length block → turnRoom ≤ length before → from < r .used
+    fed-some less room = runs-some (f .runs) sound long less room

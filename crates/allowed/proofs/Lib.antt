@@ -7,3 +7,4 @@ pub mod Timing
 pub mod Serving
 pub mod Connections
 pub mod Scripting
+pub mod Framing

@@ -1,4 +1,4 @@
--- What a frame is, apart from how one is taken apart: the tables of docs/PORT.md.
+-- What a frame is, apart from how one is taken apart: docs/PORT.md.
 use Prim.Native.Nat.{ℕ, _+_, _*_, _/_, _%_, _^_, _≤_, _<_}
 use Prim.Native.String.{String}
 use mathlib.Core.Bool.{_&&_}
@@ -46,7 +46,8 @@ pub data Said : Type 0 where
 abbrev pub refused : ℕ → ℕ → List Said
 refused connection number = event (Refused connection number) ∷ []
 
--- any frame: the rows of the table, and then "A frame of another form .. gets the error frame with number 0"
+-- any frame, by its kind, and then "A frame of another form (another kind, or another number of bytes than its kind has) gets the error frame with
+-- number 0"
 unfoldable pub saidBy : ℕ → ℕ → List ℕ → List Said
 saidBy kind connection s = first
     (((eqb kind (letter "b") && leb connection 7) ⇒ map (stream connection) s)
@@ -58,7 +59,7 @@ saidBy kind connection s = first
     ∷ ((eqb kind (letter "d") && eqb (length s) 0) ⇒ event Due ∷ [])
     ∷ []) (refused connection 0)
 
--- ---- the other way: what a socket has to say, and the frame that says it. Where the table does not look at the connection, it is any.
+-- ---- the other way: what a socket has to say, and the frame that says it. Where the connection is not looked at, it is any.
 pub data Input : Type 0 where
   piece : ℕ → List ℕ → Input
   closed : ℕ → Input

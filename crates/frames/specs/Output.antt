@@ -1,6 +1,6 @@
--- What comes out: the frames of each answer. The second table of docs/PORT.md, and: "A line is answered at its CR: a `b` to the asker, a second
--- `b` with the same bytes to the owner of a halted transmission if that is another connection, then an `s` where something changed. A sendir
--- that is taken has no `b`."
+-- What comes out: the frames of each answer. docs/PORT.md: "A line is answered at its CR: a `b` to the asker, a second `b` with the same bytes to
+-- the owner of a halted transmission if that is another connection, then an `s` where the line was carried out on a connector or a relay". "A
+-- sendir that is taken has no `b`."
 use Prim.Native.Nat.{ℕ, _+_}
 use mathlib.Core.Bool.{Bool, true, false}
 use mathlib.Core.List.{List, [], _∷_, _++_, map}

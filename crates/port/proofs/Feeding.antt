@@ -1,12 +1,12 @@
 -- The loop over a block: turns one after the other, their frames one behind the other.
 use Prim.Native.Nat.{ℕ, _+_, _-_, _≤_, _<_}
-use mathlib.Core.Path.{_≡_, sym, _∙_}
+use mathlib.Core.Path.{_≡_, refl, sym, ap, _∙_}
 use mathlib.Core.List.{List, [], _++_, append-nil, append-assoc}
 use mathlib.Core.Logic.{_⊎_, inl, inr}
 use native.Mathlib.Omega.{arith}
 use lib.ListN.{length, take, drop, getD, length-drop}
 use lib.Seq.{getD-drop, take-all}
-use Rattle.laws.specs.Put.{Put}
+use Rattle.laws.specs.Put.{over, Put}
 use Rattle.laws.proofs.Put.{nothing, put-length, then}
 use Rattle.server.specs.Record.{allBuffers}
 use Rattle.port.specs.declared.Progress.{Progress}
@@ -125,3 +125,30 @@ module _ (block : List ℕ) (bytes : (k : ℕ) → getD block k 0 < 256) where
 
     pub fed-some : from < length block → turnRoom ≤ length before → from < r .used
     fed-some less room = runs-some (f .runs) sound long less room
+
+-- ---- one outcome
+
+runs-one : {block text text' : List ℕ} {room i j j' : ℕ} {w v v' : Whole} → Runs block room i w text j v → Runs block room i w text' j' v'
+    → (text ≡ text') × (j ≡ j') × (v ≡ v')
+runs-one (stops why) (stops why') = (refl, refl, refl)
+runs-one (stops (inl end)) (turns less room r) = absurd (omega arith)
+runs-one (stops (inr full)) (turns less room r) = absurd (omega arith)
+runs-one (turns less room r) (stops (inl end)) = absurd (omega arith)
+runs-one (turns less room r) (stops (inr full)) = absurd (omega arith)
+runs-one {block} (turns {i = i} {w = w} less room r) (turns less' room' r') =
+    let same = runs-one r r' in
+    (ap (λ (t : List ℕ). turnOf w (drop i block) .move .text ++ t) (same .0), same .1, same .2)
+
+-- what a block gives is one thing: the result, and all that is lent
+pub feeds-one : {block : List ℕ} {from : ℕ} {w : Whole} {before : List ℕ} {r r' : Progress} {store store' buffers buffers' out out' : List ℕ}
+    → Feeds block from w before r store buffers out → Feeds block from w before r' store' buffers' out'
+    → (r ≡ r') × (store ≡ store') × (buffers ≡ buffers') × (out ≡ out')
+feeds-one {before = before} f g =
+    let same = runs-one (f .runs) (g .runs) in
+    let states = ap (λ (v : Whole). v .state) (same .2) in
+    let ends = f .put .place ∙ ap (λ (t : List ℕ). 0 + length t) (same .0) ∙ sym (g .put .place) in (
+      λ k. record { state = states k; used = same .1 k; end = ends k },
+      ap (λ (v : Whole). v .store) (same .2),
+      ap (λ (v : Whole). v .buffers) (same .2),
+      f .put .laid ∙ ap (over before 0) (same .0) ∙ sym (g .put .laid),
+    )

@@ -2,3 +2,5 @@ pub mod Quiet
 pub mod Pieces
 pub mod Turning
 pub mod Feeding
+pub mod Bytes
+pub mod Cutting

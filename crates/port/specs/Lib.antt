@@ -1,3 +1,4 @@
 pub mod Event
 pub mod Turn
 pub mod Run
+pub mod Bytes

@@ -1,7 +1,6 @@
 -- `port::run` meets its contract.
 use borrow.Author.Needs.{needs}
 use mathlib.Core.Path.{_≡_, refl}
-use native.Mathlib.Omega.{arith}
 use lib.ListN.{length}
 use Rattle.port.specs.Turn.{SoundState}
 use Rattle.port.proofs.Turning.{fresh-state}

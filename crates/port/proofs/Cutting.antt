@@ -40,7 +40,7 @@ pub record Held (w : Whole) : Type 0 where
 steady : {w : Whole} → Held w → Steady (w .state .server) (w .buffers)
 steady h = record { sound = h .sound .server; long = h .long; many = h .many }
 
-abbrev Bytes : List ℕ → Type 0
+abbrev pub Bytes : List ℕ → Type 0
 Bytes s = (k : ℕ) → getD s k 0 < 256
 
 event-many : (s : Server) (store : List ℕ) (e : Event) → length (eventOf s store e .server .assemblers) ≡ length (s .assemblers)
@@ -74,7 +74,7 @@ turn-many s (frame.Reading port) store buffers block = event-many s store (readO
 turn-many s (frame.Wait connection come number) store buffers block = event-many s store (readOf (frame.Wait connection come number) block .event)
 turn-many s (frame.Over left) store buffers block = refl
 
-turn-held : (w : Whole) (block : List ℕ) → Held w → Bytes block → Held (after (turnOf w block))
+pub turn-held : (w : Whole) (block : List ℕ) → Held w → Bytes block → Held (after (turnOf w block))
 turn-held w block h bytes =
     let k = turn-keeps w block (h .sound) (h .long) bytes in
     record {
@@ -119,7 +119,7 @@ passing-on : (m : ℕ) → passing (suc m) ≡ frame.Over (suc m)
 unfolding passing
 passing-on m = rw (ne-eqb (suc m) 0 (λ e. omega arith))
 
-piece-on : (connection m : ℕ) → pieceOf connection (suc m) ≡ frame.Piece connection (suc m)
+pub piece-on : (connection m : ℕ) → pieceOf connection (suc m) ≡ frame.Piece connection (suc m)
 unfolding pieceOf
 piece-on connection m = rw (ne-eqb (suc m) 0 (λ e. omega arith))
 
@@ -232,7 +232,7 @@ alone-written : (w : Whole) (b : ℕ) (rest : List ℕ) → Held w → b < 256 �
     → written (take (turnOf w (b ∷ rest) .move .used) (b ∷ rest)) w ≡ writes (turnOf w (b ∷ rest) .move .text) (after (turnOf w (b ∷ rest)))
 alone-written w b rest h byte e = rw (e, one-used w b h byte) (one-written w b)
 
-turn-written : (rest : List ℕ) (w : Whole) (b : ℕ) → Held w → Bytes (b ∷ rest)
+pub turn-written : (rest : List ℕ) (w : Whole) (b : ℕ) → Held w → Bytes (b ∷ rest)
     → written (take (turnOf w (b ∷ rest) .move .used) (b ∷ rest)) w ≡ writes (turnOf w (b ∷ rest) .move .text) (after (turnOf w (b ∷ rest)))
 turn-written [] w b h bytes = alone-written w b [] h (bytes 0) refl
 turn-written (a ∷ rest) w b h bytes =
@@ -252,12 +252,12 @@ turn-written (a ∷ rest) w b h bytes =
 
 -- ---- a run, a block, blocks
 
-written-append : (s t : List ℕ) (w : Whole) → written (s ++ t) w ≡ onward (written s w) (written t)
+pub written-append : (s t : List ℕ) (w : Whole) → written (s ++ t) w ≡ onward (written s w) (written t)
 written-append [] t w = refl
 written-append (b ∷ s) t w = rw (written-append s t (after (turnOf w (b ∷ []))), append-assoc)
 
 -- the turn at a place of a block, and then the rest of the block
-turn-at : (block : List ℕ) (i : ℕ) (w : Whole) → Held w → Bytes block → i < length block
+pub turn-at : (block : List ℕ) (i : ℕ) (w : Whole) → Held w → Bytes block → i < length block
     → written (drop i block) w
     ≡ (let x = turnOf w (drop i block) in onward (writes (x .move .text) (after x)) (written (drop (i + x .move .used) block)))
 turn-at block i w h bytes less =
@@ -291,7 +291,7 @@ module _ {block : List ℕ} (bytes : Bytes block) where
   block-written (ended end) h = rw (drop-of-length-le block end)
   block-written (fed r rest) h = runs-written r h ∙ rw (block-written rest (runs-held r h))
 
-abbrev AllBytes : List (List ℕ) → Type 0
+abbrev pub AllBytes : List (List ℕ) → Type 0
 AllBytes [] = Unit
 AllBytes (block ∷ blocks) = Bytes block × AllBytes blocks
 
@@ -305,7 +305,7 @@ blocks-written (next {block = block} {blocks = blocks} {w = w} b rest) bytes h =
 
 -- ---- the theorems
 
-fresh-held : (store buffers : List ℕ) → length buffers ≡ allBuffers → Held (whole freshState store buffers)
+pub fresh-held : (store buffers : List ℕ) → length buffers ≡ allBuffers → Held (whole freshState store buffers)
 fresh-held store buffers long = record { sound = fresh-state; long = long; many = refl }
 
 -- from a fresh server, with any content of the lent memory: what is written over blocks is what their bytes write one by one

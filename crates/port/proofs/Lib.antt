@@ -4,3 +4,4 @@ pub mod Turning
 pub mod Feeding
 pub mod Bytes
 pub mod Cutting
+pub mod Serving

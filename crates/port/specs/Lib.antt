@@ -2,3 +2,4 @@ pub mod Event
 pub mod Turn
 pub mod Run
 pub mod Bytes
+pub mod Serve

@@ -1,3 +1,4 @@
 pub mod Serving
 pub mod Due
 pub mod Worked
+pub mod Framed

@@ -2,3 +2,4 @@ pub mod Events
 pub mod Told
 pub mod Serving
 pub mod Due
+pub mod Framed

@@ -1,6 +1,7 @@
 //! The oracle: a second hub, to be compared with the bench byte for byte. It was written from document 01 and its settled readings alone, by hands that had
 //! not seen the proved code, and in another style: moments are absolute, fractions exact, waveforms written out copy by copy, and nothing that
-//! happened is forgotten; the present state is read off the history. Words in quotation marks are document 01's.
+//! happened is forgotten; the present state is read off the history. Words in quotation marks are document 01's, or 02's
+//! where a request of that changed them.
 //! The program reads the bench's script on standard input and prints the bench's output.
 
 use std::io::{self, Read, Write};
@@ -227,6 +228,12 @@ impl Sending {
         Done { top: t * u128::from(self.command.freq), bottom: 1_000_000 }
     }
 
+    /// The copies whose end is reached.
+    pub fn finished_at(&self, moment: Moment) -> usize {
+        let done = self.done_at(moment);
+        self.copies.iter().filter(|copy| done.reaches(copy.ends())).count()
+    }
+
     /// The first whole microsecond when the fraction reaches a place, found by halving: at one hertz or more it is reached by `late`.
     pub fn first_moment_at(&self, place: Periods) -> Moment {
         let (mut early, mut late) = (self.told[0].0 .0, self.told[0].0 .0 + place.0 * 1_000_000);
@@ -259,11 +266,10 @@ impl Sending {
         }
     }
 
-    /// "The copy in hand counts as sent, so the total becomes copies begun plus repeat. At an exact copy boundary the next copy has begun."
+    /// Document 02, request 2: "the total becomes copies finished plus repeat; at an exact boundary the copy just ended is finished".
     fn renew(&mut self, now: Moment, line: &[u8]) {
-        let done = self.done_at(now);
-        let begun = self.copies.iter().filter(|copy| done.reaches(copy.begins)).count();
-        self.write_out(begun + self.command.repeat as usize);
+        let finished = self.finished_at(now);
+        self.write_out(finished + self.command.repeat as usize);
         self.told.push((now, line.to_vec()));
     }
 }

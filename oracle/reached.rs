@@ -99,6 +99,14 @@ impl Step<'_> {
         })
     }
 
+    /// The renewal came in the copy in which the one before came.
+    fn renewed_twice_in_a_copy(&self) -> bool {
+        self.renewed.is_some_and(|sending| match sending.told[1..] {
+            [.., (before, _), (now, _)] => sending.finished_at(before) == sending.finished_at(now),
+            _ => false,
+        })
+    }
+
     /// The line that started the renewed transmission has something else in a field than this one.
     fn renewed_otherwise(&self, index: usize, meaning: fn(&[u8]) -> Option<u64>) -> bool {
         self.renewed.is_some_and(|sending| meaning(field(&sending.told[0].1, index)) != meaning(self.field(index)))
@@ -232,6 +240,9 @@ fn moments() -> Vec<Aim> {
         aim("renewal 1 us after a copy boundary", |step| step.renewed_from_boundary(1, true)),
         aim("renewal just after an inexact boundary", |step| step.renewed_from_boundary(0, false)),
         aim("renewal just before an inexact boundary", |step| step.renewed_from_boundary(-1, false)),
+        aim("renewal in the first copy", |step| step.renewed.is_some_and(|sending| sending.finished_at(step.hub.now) == 0)),
+        aim("two renewals in one copy", |step| step.renewed_twice_in_a_copy()),
+        aim("renewal with repeat 1", |step| step.renewed.is_some_and(|sending| sending.command.repeat == 1)),
         aim("the same line at completion starts anew", |step| step.started_anew()),
         aim("wait ends at a completion", |step| step.waited_past_completion(0)),
         aim("wait ends 1 us before a completion", |step| step.waited_to_before_completion()),

@@ -336,7 +336,7 @@ static int same_command(const struct command *a, const struct command *b)
 }
 
 /*
- * The total becomes copies begun plus repeat.  The tails of finished copies
+ * The total becomes copies finished plus repeat.  The tails of finished copies
  * are taken off both sides, so the copy in hand is again the first one.
  */
 static void renew(struct connector *k)
@@ -344,7 +344,7 @@ static void renew(struct connector *k)
     u64 lead = k->lead * TICKS, tail = k->tail * TICKS;
     if (k->at >= lead)
         k->at = lead + (k->at - lead) % tail;
-    k->copies = 1 + (u64)k->cmd.repeat;
+    k->copies = k->cmd.repeat;
 }
 
 /* s is at the comma after the address, or at the line's end. */

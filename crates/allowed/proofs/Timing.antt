@@ -18,9 +18,9 @@ pace-started = told _ refl (λ _ _ _ _. refl)
 pub pace-end : One pace.Pace.end.ended (λ _. pace.Pace.end.spec)
 pace-end = told _ refl (λ _ _ _ _. refl)
 
--- pace::Pace::begun
-pub pace-begun : One pace.Pace.begun.ended (λ _. pace.Pace.begun.spec)
-pace-begun = told _ refl (λ _ _ _ _. refl)
+-- pace::Pace::finished
+pub pace-finished : One pace.Pace.finished.ended (λ _. pace.Pace.finished.spec)
+pace-finished = told _ refl (λ _ _ _ _. refl)
 
 -- pace::Pace::renewed
 pub pace-renewed : One pace.Pace.renewed.ended (λ _. pace.Pace.renewed.spec)

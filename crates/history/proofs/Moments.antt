@@ -1,14 +1,15 @@
--- The moments of every transmission in the log of a history: its completion, and the copies begun.
-use Prim.Native.Nat.{ℕ, suc, _-_, _≤_, _<_}
+-- The moments of every transmission in the log of a history: its completion, and the copies finished.
+use Prim.Native.Nat.{ℕ, _≤_, _<_}
 use mathlib.Core.Path.{_≡_, subst}
 use mathlib.Core.Bool.{true, false}
 use mathlib.Core.List.{List}
 use mathlib.Core.Option.{some}
-use Rattle.meaning.specs.Time.{inTicks, Transmission, waveform, lasts, done, complete, finish, begun}
+use Rattle.meaning.specs.Time.{Transmission, done, complete, finish, finished}
 use Rattle.meaning.specs.Log.{now, lastOf}
 use Rattle.meaning.specs.Table.{Call, logOf}
+use Rattle.waveform.specs.Meaning.{copyEnd}
 use Rattle.waveform.specs.Paced.{Fit}
-use Rattle.waveform.proofs.Meaning.{finish-first, begun-copies, begun-boundary}
+use Rattle.waveform.proofs.Meaning.{finish-first, finished-copies, finished-boundary}
 use Rattle.shown.proofs.Shown.{FitFor}
 use Rattle.shown.proofs.Logged.{logged-fit}
 
@@ -22,11 +23,11 @@ module _ (h : List Call) (port : ℕ) (s : Transmission) (e : lastOf port (logOf
       → (now (logOf h) < finish s) × (complete s (finish s) ≡ true) × ((u : ℕ) → s .start ≤ u → complete s u ≡ true → finish s ≤ u)
   completion-first runs = finish-first fit runs
 
-  -- of the copies begun, the one before the last is finished, and the last is not
-  pub copies-begun : (inTicks (lasts (waveform (s .fields) (s .pairs) (begun s (now (logOf h)) - 1))) ≤ done s (now (logOf h)))
-      × (done s (now (logOf h)) < inTicks (lasts (waveform (s .fields) (s .pairs) (begun s (now (logOf h))))))
-  copies-begun = begun-copies fit
+  -- its finished copies are those whose end is reached
+  pub copies-finished : (n : ℕ) → (n ≤ finished s (now (logOf h)) → copyEnd s n ≤ done s (now (logOf h)))
+      × (copyEnd s n ≤ done s (now (logOf h)) → n ≤ finished s (now (logOf h)))
+  copies-finished = finished-copies fit
 
-  -- at an exact boundary the next copy has begun
-  pub boundary-begun : (n : ℕ) → 1 ≤ n → done s (now (logOf h)) ≡ inTicks (lasts (waveform (s .fields) (s .pairs) n)) → begun s (now (logOf h)) ≡ suc n
-  boundary-begun = begun-boundary fit
+  -- at an exact boundary the copy just ended is finished, and no more
+  pub boundary-finished : (n : ℕ) → done s (now (logOf h)) ≡ copyEnd s n → finished s (now (logOf h)) ≡ n
+  boundary-finished = finished-boundary fit

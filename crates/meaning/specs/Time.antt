@@ -58,15 +58,16 @@ onAt on (x ∷ xs) place = cond (ltb place (inTicks x)) on (onAt (not on) xs (pl
 unfoldable pub carrier : Transmission → ℕ → Bool
 carrier s t = onAt true (waveform (s .fields) (s .pairs) (s .copies)) (done s t)
 
--- the copies begun at a moment; "At an exact copy boundary the next copy has begun."
-unfoldable pub begun : Transmission → ℕ → ℕ
-begun s t =
+-- the copies finished at a moment: none within the first, then that one and as many further ones as fit; document 02, request 2: "at an
+-- exact boundary the copy just ended is finished"
+unfoldable pub finished : Transmission → ℕ → ℕ
+finished s t =
     let first = inTicks (lasts (countsOf (s .pairs))) in
-    cond (ltb (done s t) first) 1 (2 + (done s t - first) / inTicks (lasts (furtherCopy (s .fields) (s .pairs))))
+    cond (ltb (done s t) first) 0 (1 + (done s t - first) / inTicks (lasts (furtherCopy (s .fields) (s .pairs))))
 
--- "sendir to an idle connector starts"; "renewed. The copy in hand counts as sent, so the total becomes copies begun plus repeat."
+-- "sendir to an idle connector starts"; "the transmission is renewed", and by request 2 "the total becomes copies finished plus repeat"
 unfoldable pub started : Fields → List Pair → ℕ → Transmission
 started f ps t = record { fields = f; pairs = ps; start = t; copies = f .repeat }
 
 unfoldable pub renewed : Transmission → ℕ → Transmission
-renewed s t = record { fields = s .fields; pairs = s .pairs; start = s .start; copies = begun s t + s .fields .repeat }
+renewed s t = record { fields = s .fields; pairs = s .pairs; start = s .start; copies = finished s t + s .fields .repeat }

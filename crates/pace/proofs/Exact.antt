@@ -1,8 +1,8 @@
--- What the times mean: the moment is the first, waits add up, and the copies begun and the place are those of the way.
+-- What the times mean: the moment is the first, waits add up, and the copies finished are those whose end is reached.
 use Prim.Native.Nat.{ℕ, suc, _+_, _-_, _*_, _≤_, _<_}
 use mathlib.Core.Path.{_≡_, ap, _∙_}
 use mathlib.Core.Logic.{_⊎_, inl, inr}
-use native.Mathlib.Nat.{add-mul, suc-mul, mul-assoc, div-lt-iff-lt-mul, le-div-iff-mul-le, lt-div-mul-add, mul-add-div-right, mul-div-cancel}
+use native.Mathlib.Nat.{add-mul, suc-mul, mul-assoc, mul-le-mul, div-lt-iff-lt-mul, le-div-iff-mul-le, lt-div-mul-add, mul-add-div-right, mul-div-cancel}
 use native.Mathlib.Omega.{arith}
 use borrow.Author.Tests.{le-leb, lt-leb, ltb-true, ltb-false}
 use lib.Dec.{ltb}
@@ -10,8 +10,7 @@ use Rattle.laws.proofs.Choice.{by-test}
 use Rattle.pace.specs.declared.Pace.{Pace}
 use Rattle.pace.specs.declared.Passed.the-variants.{Complete}
 use Rattle.meaning.specs.Time.{inTicks, firstMicro}
-use Rattle.pace.specs.Pace.{SoundPace, micros, endOf, begun, movedTo, passed}
-use Rattle.pace.proofs.Bounds.{begun-first, finished-within, unfinished-below}
+use Rattle.pace.specs.Pace.{SoundPace, micros, endOf, finished, movedTo, passed}
 
 -- ---- the moment of completion
 module _ (left freq : ℕ) (f : 1 ≤ freq) where
@@ -66,29 +65,13 @@ unfolding passed endOf
 wait-complete p freq a b f h k =
     (rw (sum-way p freq a b, le-leb _ _ k), rw (le-leb _ _ k, moment-wait p freq a f h))
 
--- ---- the copies begun
-begun-done : (p : Pace) → (inTicks (p .lead .0 + (begun p - 1) * p .tail .0) ≤ p .at .0) ⊎ (begun p ≡ 1)
-begun-done p =
-    by-test (ltb (p .at .0) (inTicks (p .lead .0)))
-    (λ t. inr (begun-first p (omega (arith, ltb-true))))
-    (λ t. inl (omega (arith, ltb-false, finished-within p, mul-assoc (begun p - 1) (p .tail .0) 1000000)))
-
-begun-below : {p : Pace} → SoundPace p → p .at .0 < inTicks (p .lead .0 + begun p * p .tail .0)
-unfolding begun
-begun-below {p} s =
-    let e : begun p ≡ suc (begun p - 1) = omega arith in
-    let f : begun p * p .tail .0 ≡ (begun p - 1) * p .tail .0 + p .tail .0 = ap (λ n. n * p .tail .0) e ∙ suc-mul _ _ in
-    omega (arith, unfinished-below s, mul-assoc (begun p - 1) (p .tail .0) 1000000)
-
--- those before the one in hand are finished, and that one is not
-pub begun-is : {p : Pace} → SoundPace p
-    → ((inTicks (p .lead .0 + (begun p - 1) * p .tail .0) ≤ p .at .0) ⊎ (begun p ≡ 1))
-    × (p .at .0 < inTicks (p .lead .0 + begun p * p .tail .0))
-begun-is s = (begun-done _, begun-below s)
-
--- at an exact boundary the next has begun
-pub begun-boundary : {p : Pace} → SoundPace p → (n : ℕ) → p .at .0 ≡ inTicks (p .lead .0 + n * p .tail .0) → begun p ≡ suc n
-unfolding begun
-begun-boundary {p} s n h =
-    let e : p .at .0 - inTicks (p .lead .0) ≡ n * inTicks (p .tail .0) = omega (arith, mul-assoc n (p .tail .0) 1000000) in
-    rw e (ap suc (mul-div-cancel n {n = inTicks (p .tail .0)} (omega (arith, s .tail-low))))
+-- ---- the copies finished
+-- those whose end is reached, and no other: copy n of the record ends with the n-th time that the pairs from the offset on are done
+pub finished-is : {p : Pace} → SoundPace p → (n : ℕ) → 1 ≤ n
+    → (n ≤ finished p → inTicks (p .lead .0 + n * p .tail .0) ≤ p .at .0)
+    × (inTicks (p .lead .0 + n * p .tail .0) ≤ p .at .0 → n ≤ finished p)
+unfolding finished
+finished-is {p} s n some =
+    let by = le-div-iff-mul-le {k = inTicks (p .tail .0)} {x = n} {y = p .at .0 - inTicks (p .lead .0)} (omega (arith, s .tail-low)) in
+    let low = mul-le-mul some (s .tail-low) in
+    (λ h. let k = by .0 h in omega (arith, mul-assoc n (p .tail .0) 1000000), λ h. by .1 (omega (arith, mul-assoc n (p .tail .0) 1000000)))

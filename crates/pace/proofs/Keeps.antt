@@ -1,6 +1,6 @@
 -- Soundness is kept: by a start, a renewal and a wait that does not reach the end.
 use Prim.Native.Nat.{ℕ, _+_, _*_, _≤_, _<_}
-use native.Mathlib.Nat.{mul-le-mul, suc-mul}
+use native.Mathlib.Nat.{mul-le-mul, mul-le-mul-right}
 use native.Mathlib.Omega.{arith}
 use Rattle.pace.specs.declared.Pace.{Pace}
 use Rattle.pace.specs.Pace.{SoundPace, periods, started, endOf, renewed, movedTo}
@@ -21,7 +21,7 @@ renewed-sound {p} {repeat} s r₁ r₂ =
       tail-low = s .tail-low;
       tail-high = s .tail-high;
       copies-high = omega arith;
-      under-way = omega (arith, unfinished-below s, suc-mul repeat (p .tail .0));
+      under-way = omega (arith, unfinished-below s, mul-le-mul-right {m = 1} {n = repeat} (p .tail .0) r₁);
     }
 
 pub moved-sound : {p : Pace} (freq wait : ℕ) → SoundPace p → p .at .0 + wait * freq < endOf p

@@ -1,7 +1,7 @@
 -- Time on a connector. Document 01: "The first copy is all pairs; each further copy runs from the on count at the offset. After t
 -- microseconds a transmission has done t × freq / 1,000,000 periods, an exact fraction. .. The transmission is complete at the
 -- first whole microsecond when the fraction reaches the total." In ticks, millionths of a period, all of these are whole numbers.
-use Prim.Native.Nat.{ℕ, suc, _+_, _-_, _*_, _/_, _%_, _≤_, _<_}
+use Prim.Native.Nat.{ℕ, _+_, _-_, _*_, _/_, _%_, _≤_, _<_}
 use mathlib.Core.Path.{_≡_}
 use mathlib.Core.Bool.{cond}
 use mathlib.Core.List.{List, [], _∷_}
@@ -44,15 +44,13 @@ started lead tail repeat = record { lead = lead; tail = tail; copies = repeat; a
 unfoldable pub endOf : Pace → ℕ
 endOf p = inTicks (p .lead .0 + p .copies * p .tail .0)
 
--- "At an exact copy boundary the next copy has begun."
-unfoldable pub begun : Pace → ℕ
-begun p = suc ((p .at .0 - inTicks (p .lead .0)) / inTicks (p .tail .0))
+-- of the record's copies those that are finished; "at an exact boundary the copy just ended is finished"
+unfoldable pub finished : Pace → ℕ
+finished p = (p .at .0 - inTicks (p .lead .0)) / inTicks (p .tail .0)
 
--- "The copy in hand counts as sent, so the total becomes copies begun plus repeat": the finished ones are taken off the total and
--- off the way, so that neither grows
+-- "the total becomes copies finished plus repeat": the finished ones are taken off the total and off the way, so that neither grows
 unfoldable pub renewed : Pace → ℕ → Pace
-renewed p repeat =
-    paceOf (p .lead .0) (p .tail .0) (suc repeat) (p .at .0 - (begun p - 1) * inTicks (p .tail .0))
+renewed p repeat = paceOf (p .lead .0) (p .tail .0) repeat (p .at .0 - finished p * inTicks (p .tail .0))
 
 -- the place in the pairs: in the first copy as it is, later within the pairs from the offset on
 unfoldable pub placeOf : Pace → ℕ
@@ -74,5 +72,5 @@ pub record SoundPace (p : Pace) : Type 0 where
   pub lead-high : p .lead .0 ≤ 26000000
   pub tail-low : 1 ≤ p .tail .0
   pub tail-high : p .tail .0 ≤ 26000000
-  pub copies-high : p .copies ≤ 21
+  pub copies-high : p .copies ≤ 20
   pub under-way : p .at .0 < endOf p

@@ -6,7 +6,7 @@ ghost use Prim.Native.Nat.{_-_, _*_, _≤_};
 ghost use Rattle.laws.specs.Lists.{numbers};
 ghost use Rattle.code.specs.Limits.{mostPairs};
 ghost use Rattle.meaning.specs.Time.{lasts};
-ghost use Rattle.pace.specs.Pace.{SoundPace, WideCount, periods, micros, ticks, started, endOf, begun, renewed, placeOf, movedTo, passed};
+ghost use Rattle.pace.specs.Pace.{SoundPace, WideCount, periods, micros, ticks, started, endOf, finished, renewed, placeOf, movedTo, passed};
 
 // A number of carrier periods.
 pub struct Periods(pub u32);
@@ -75,31 +75,31 @@ impl Pace {
         Ticks((self.lead.0 as u64 + self.copies as u64 * self.tail.0 as u64) * 1000000)
     }
 
-    // The copies that have begun; at an exact boundary the next has.
-    pub fn begun(self) -> u64
+    // The copies that are finished; at an exact boundary the one just ended is.
+    pub fn finished(self) -> u64
         requires { ⌜ SoundPace self ⌝ }
-        ensures { λ r. ⌜ r ≡ begun self ⌝ }
+        ensures { λ r. ⌜ r ≡ finished self ⌝ }
     {
         let lead = self.lead.0 as u64 * 1000000;
         if self.at.0 < lead {
-            return 1;
+            return 0;
         }
-        1 + (self.at.0 - lead) / (self.tail.0 as u64 * 1000000)
+        (self.at.0 - lead) / (self.tail.0 as u64 * 1000000)
     }
 
-    // The copies begun and so many more; those that are finished are taken off both sides.
+    // The copies finished and so many more; those that are finished are taken off both sides.
     pub fn renewed(self, repeat: u32) -> Pace
-        requires { ⌜ SoundPace self × (repeat ≤ 20) ⌝ }
+        requires { ⌜ SoundPace self ⌝ }
         ensures { λ r. ⌜ r ≡ renewed self repeat ⌝ }
     {
-        let finished = self.begun() - 1;
+        let finished = self.finished();
         let at = Ticks(self.at.0 - finished * (self.tail.0 as u64 * 1000000));
         let lead = self.lead;
         let tail = self.tail;
         Pace {
             lead,
             tail,
-            copies: 1 + repeat,
+            copies: repeat,
             at,
         }
     }

@@ -194,7 +194,7 @@ now-grows-all log [] = omega arith
 now-grows-all log (call ∷ l) = omega (arith, now-grows (deedsOf (judge log call)) log, now-grows-all (logged log call) l)
 
 -- deeds that do not touch a connector leave it what it had
-untouched : (p : ℕ) (ds log : List Deed) → all (λ d. not (touches p d)) ds ≡ true → lastOf p (ds ++ log) ≡ lastOf p log
+pub untouched : (p : ℕ) (ds log : List Deed) → all (λ d. not (touches p d)) ds ≡ true → lastOf p (ds ++ log) ≡ lastOf p log
 untouched p [] log e = refl
 untouched p (passed n ∷ ds) log e = untouched p ds log e
 untouched p (setting q x ∷ ds) log e = untouched p ds log e

@@ -9,7 +9,7 @@ use Rattle.words.specs.declared.Pair.{Pair}
 use Rattle.words.specs.declared.Fields.{Fields}
 use Rattle.meaning.specs.Line as text
 use Rattle.meaning.specs.Line.{addressed}
-use Rattle.meaning.specs.Time.{Transmission, begun}
+use Rattle.meaning.specs.Time.{Transmission, finished}
 use Rattle.meaning.specs.Time as time
 use Rattle.meaning.specs.Log.{Deed, event, started, renewed, now, lastOf, ownerOf, onAir}
 use Rattle.meaning.specs.Table.{Call, does, taken, replied, reply, answerOf, judge, logged}
@@ -21,12 +21,12 @@ module _ (log : List Deed) (call : Call) (connection p : ℕ) (f : Fields) (ps :
     pub owner : ownerOf p (logged log call) ≡ some connection
     pub last : lastOf p (logged log call) ≡ some (time.started f ps (now log))
 
-  -- "the transmission is renewed. The copy in hand counts as sent, so the total becomes copies begun plus repeat": owner and start stay
+  -- "the transmission is renewed"; by request 2 of document 02 "the total becomes copies finished plus repeat": owner and start stay
   pub record Renews (t : Transmission) : Type 0 where
     pub judged : judge log call ≡ does (taken []) (event (renewed p) ∷ [])
     pub owner : ownerOf p (logged log call) ≡ some connection
     pub last : lastOf p (logged log call)
-        ≡ some (record { fields = f; pairs = ps; start = t .start; copies = begun t (now log) + f .repeat })
+        ≡ some (record { fields = f; pairs = ps; start = t .start; copies = finished t (now log) + f .repeat })
 
 -- "busyIR with the refused line's id, hub unchanged"
 pub record Busy (log : List Deed) (call : Call) (p id : ℕ) : Type 0 where

@@ -3,19 +3,19 @@ use Prim.Native.Nat.{ℕ, zero, suc, _+_, _-_, _*_, _/_, _%_, _≤_, _<_}
 use mathlib.Core.Path.{_≡_, refl, sym, ap, _∙_}
 use mathlib.Core.Bool.{Bool, true, false, not}
 use mathlib.Core.List.{List, [], _∷_, _++_}
-use native.Mathlib.Nat.{suc-mul, mul-le-mul-right, mul-div-cancel, div-mul-le-self, lt-div-mul-add}
+use native.Mathlib.Nat.{suc-mul, mul-le-mul-right, le-div-iff-mul-le}
 use native.Mathlib.Omega.{arith}
-use lib.Dec.{ltb}
+use lib.Dec.{ltb, leb}
 use lib.ListN.{length}
-use borrow.Author.Tests.{ltb-true, ltb-false, lt-ltb, le-ltb, le-leb, leb-true, eqb-true, eqb-false, eq-eqb, ne-eqb}
-use Rattle.laws.proofs.Choice.{by-test, not-both}
-use Rattle.meaning.specs.Time.{inTicks, firstMicro, onAt, Transmission, waveform, lasts, total, done, complete, finish, carrier, begun, renewed}
+use borrow.Author.Tests.{ltb-true, ltb-false, lt-ltb, le-ltb, le-leb, leb-true, leb-false, eqb-true, eqb-false, eq-eqb, ne-eqb}
+use Rattle.laws.proofs.Choice.{cond-case, by-test, not-both}
+use Rattle.meaning.specs.Time.{inTicks, firstMicro, onAt, Transmission, waveform, lasts, total, done, complete, finish, carrier, finished, renewed}
 use Rattle.pace.proofs.Exact.{first-micro}
-use Rattle.waveform.specs.Meaning.{isEven, SameStart}
+use Rattle.waveform.specs.Meaning.{isEven, SameStart, copyEnd, unfinished}
 use Rattle.waveform.proofs.Copies.{waveform-ticks}
 use Rattle.waveform.proofs.Turning.{turned, on-behind}
-use Rattle.waveform.specs.Paced.{Fit, lead, tail}
-use Rattle.waveform.proofs.Paced.{tail-some, begun-is}
+use Rattle.waveform.specs.Paced.{Fit, removed, lead, tail}
+use Rattle.waveform.proofs.Paced.{tail-some, total-is, finished-is, fit-renewed}
 
 -- ---- the carrier: on in an on count, its start included (y = 0) and its end not
 even-next : (n : ℕ) → isEven (suc n) ≡ not (isEven n)
@@ -95,45 +95,67 @@ module _ {s : Transmission} {t : ℕ} (g : Fit s t) where
     λ u h. complete-finished s u some-freq h,
   )
 
-  -- ---- the copies begun
-  finished-low : (n : ℕ) → n * inTicks (tail s) ≤ done s t - inTicks (lead s)
-      → inTicks (lasts (waveform (s .fields) (s .pairs) n)) ≤ done s t
-  finished-low zero h = omega arith
-  finished-low (suc n) h =
-      omega (
-        arith,
-        waveform-ticks (s .fields) (s .pairs) (g .within .offset-odd) (suc n) (omega arith),
-        suc-mul n (inTicks (tail s)),
-        tail-some g,
-      )
+  -- ---- the copies finished
+  end-is-at : (n : ℕ) → copyEnd s (suc n) ≡ inTicks (lead s) + suc n * inTicks (tail s)
+  end-is-at n = waveform-ticks (s .fields) (s .pairs) (g .within .offset-odd) (suc n) (omega arith)
 
-  -- the copy before the one in hand is finished, and that one is not
-  pub begun-copies : (inTicks (lasts (waveform (s .fields) (s .pairs) (begun s t - 1))) ≤ done s t)
-      × (done s t < inTicks (lasts (waveform (s .fields) (s .pairs) (begun s t))))
-  begun-copies =
+  -- they are those whose end is reached
+  pub finished-copies : (n : ℕ) → (n ≤ finished s t → copyEnd s n ≤ done s t) × (copyEnd s n ≤ done s t → n ≤ finished s t)
+  finished-copies zero = (λ h. omega arith, λ h. omega arith)
+  finished-copies (suc n) =
       let x = done s t - inTicks (lead s) in
-      let e : begun s t - 1 ≡ x / inTicks (tail s) = omega (arith, begun-is g) in
-      let b = ap (λ (n : ℕ). n * inTicks (tail s)) (begun-is g) in
-      let d = lt-div-mul-add {a = x} {b = inTicks (tail s)} (omega (arith, tail-some g)) in (
-        rw e (finished-low (x / inTicks (tail s)) (div-mul-le-self x (inTicks (tail s)))),
-        omega (
-          arith,
-          waveform-ticks (s .fields) (s .pairs) (g .within .offset-odd) (begun s t) (omega (arith, begun-is g)),
-          suc-mul (x / inTicks (tail s)) (inTicks (tail s)),
-        ),
+      let by = le-div-iff-mul-le {k = inTicks (tail s)} {x = suc n} {y = x} (omega (arith, tail-some g)) in (
+        λ h. let k = by .0 (omega (arith, finished-is g)) in omega (arith, end-is-at n, suc-mul n (inTicks (tail s)), tail-some g),
+        λ h. let k = by .1 (omega (arith, end-is-at n)) in omega (arith, finished-is g),
       )
 
-  -- "At an exact copy boundary the next copy has begun."
-  pub begun-boundary : (n : ℕ) → 1 ≤ n → done s t ≡ inTicks (lasts (waveform (s .fields) (s .pairs) n)) → begun s t ≡ suc n
-  begun-boundary n h e =
-      let w = waveform-ticks (s .fields) (s .pairs) (g .within .offset-odd) n h in
-      let d : done s t - inTicks (lead s) ≡ n * inTicks (tail s) = omega arith in
-      begun-is g ∙ rw d (ap suc (mul-div-cancel n {n = inTicks (tail s)} (omega (arith, tail-some g))))
+  -- "at an exact boundary the copy just ended is finished", and the next one is not
+  pub finished-boundary : (n : ℕ) → done s t ≡ copyEnd s n → finished s t ≡ n
+  finished-boundary n e =
+      by-test (ltb n (finished s t))
+      (λ h.
+      let k = finished-copies (suc n) .0 (omega (arith, ltb-true)) in
+      omega (arith, end-after n))
+      (λ h. let k = finished-copies n .1 (omega arith) in omega (arith, ltb-false))
+    where
+      end-after : (n : ℕ) → copyEnd s n < copyEnd s (suc n)
+      end-after zero = omega (arith, end-is-at 0, tail-some g)
+      end-after (suc n) = omega (arith, end-is-at n, end-is-at (suc n), suc-mul (suc n) (inTicks (tail s)), tail-some g)
+
+  -- so those not yet finished are the others
+  pub unfinished-is : (n : ℕ) → unfinished s t n ≡ n - finished s t
+  unfinished-is zero = omega arith
+  unfinished-is (suc n) =
+      cond-case (λ (m : ℕ). m + unfinished s t n ≡ suc n - finished s t) (leb (copyEnd s (suc n)) (done s t)) 0 1
+      (λ e. let k = finished-copies (suc n) .1 (leb-true _ _ e) in omega (arith, unfinished-is n))
+      (λ e.
+      let high = leb-false (copyEnd s (suc n)) (done s t) e in
+      by-test (leb (suc n) (finished s t))
+      (λ h. let k = finished-copies (suc n) .0 (leb-true _ _ h) in omega arith)
+      (λ h. omega (arith, unfinished-is n, leb-false (suc n) (finished s t) h)))
+
+  -- at no moment are more than repeat copies left: what renewals added is finished
+  pub repeat-left : s .copies ≤ finished s t + s .fields .repeat
+  repeat-left =
+      let x = done s t - inTicks (lead s) in
+      let k = le-div-iff-mul-le {k = inTicks (tail s)} {x = removed s} {y = x} (omega (arith, tail-some g)) .1 (g .gone) in
+      omega (arith, finished-is g)
 
 -- ---- "A line may be renewed for days."
 -- the total of a renewed transmission, which runs since its first start
 pub renewed-total : (s : Transmission) (t : ℕ)
-    → (total (renewed s t) ≡ inTicks (lasts (waveform (s .fields) (s .pairs) (begun s t + s .fields .repeat))))
-    × SameStart s (renewed s t)
+    → (total (renewed s t) ≡ copyEnd s (finished s t + s .fields .repeat)) × SameStart s (renewed s t)
 unfolding total renewed
 renewed-total s t = (refl, record { fields = refl; pairs = refl; start = refl })
+
+-- which copies are finished does not hang on how many there are to be
+pub finished-renewed : (s : Transmission) (t u : ℕ) → finished (renewed s t) u ≡ finished s u
+unfolding finished renewed done
+finished-renewed s t u = refl
+
+-- a renewal may add copies and takes none away
+pub renewed-grows : {s : Transmission} {t : ℕ} → Fit s t → (s .copies ≤ renewed s t .copies) × (total s ≤ total (renewed s t))
+unfolding renewed
+renewed-grows {s} {t} g =
+    let more = mul-le-mul-right {m = s .copies} {n = finished s t + s .fields .repeat} (inTicks (tail s)) (repeat-left g) in
+    (repeat-left g, omega (arith, total-is g, total-is (fit-renewed g)))

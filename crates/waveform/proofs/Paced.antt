@@ -16,9 +16,8 @@ use Rattle.words.specs.declared.Fields.{Fields}
 use Rattle.command.specs.Fields.{FieldsWithin}
 use Rattle.pace.specs.declared.Passed.the-variants.{Running, Complete}
 use Rattle.pace.specs.Pace as pace
-use Rattle.meaning.specs.Time.{inTicks, firstMicro, Transmission, total, done, complete, finish, begun, started, renewed}
+use Rattle.meaning.specs.Time.{inTicks, firstMicro, Transmission, total, done, complete, finish, finished, started, renewed}
 use Rattle.pace.specs.Pace.{periodsOf, paceOf, periods, micros, endOf, passed}
-use Rattle.pace.proofs.Bounds.{finished}
 use Rattle.pace.proofs.Exact.{moment-wait}
 use Rattle.pace.proofs.Lasting.{tail-low}
 use Rattle.waveform.specs.Paced.{removed, lead, tail, paceAt, Fit}
@@ -44,16 +43,16 @@ module _ {s : Transmission} {t : ℕ} (g : Fit s t) where
   total-is =
       waveform-ticks (s .fields) (s .pairs) (g .within .offset-odd) (s .copies) (omega (arith, g .enough, g .within .repeat-least))
 
-  -- one copy is in hand behind the finished ones
-  pub begun-is : begun s t ≡ suc ((done s t - inTicks (lead s)) / inTicks (tail s))
-  unfolding begun
-  begun-is =
+  -- behind the pairs before the offset, each copy finishes as the pairs from it on are done once more
+  pub finished-is : finished s t ≡ (done s t - inTicks (lead s)) / inTicks (tail s)
+  unfolding finished
+  finished-is =
       rw (
         further-lasts (s .fields) (s .pairs) (g .within .offset-odd),
         first-lasts (s .fields .offset / 2) (s .pairs),
         add-mul (lead s) (tail s) 1000000,
       )
-      (cond-case (λ (n : ℕ). n ≡ suc ((done s t - inTicks (lead s)) / inTicks (tail s)))
+      (cond-case (λ (n : ℕ). n ≡ (done s t - inTicks (lead s)) / inTicks (tail s))
       (ltb (done s t) _) _ _
       (λ e. omega (arith, none-gone (inTicks (lead s)) (inTicks (tail s)) tail-pos (done s t) (omega (arith, ltb-true))))
       (λ e. omega (arith, one-gone (inTicks (lead s)) (inTicks (tail s)) tail-pos (done s t) (omega (arith, ltb-false)))))
@@ -92,9 +91,10 @@ module _ {s : Transmission} {t : ℕ} (g : Fit s t) where
 
 -- ---- renewed
 module _ {s : Transmission} {t : ℕ} (g : Fit s t) where
-  removed-renewed : removed (renewed s t) ≡ (done s t - inTicks (lead s)) / inTicks (tail s)
+  -- a renewal takes the finished copies off the record
+  removed-renewed : removed (renewed s t) ≡ finished s t
   unfolding renewed
-  removed-renewed = omega (arith, begun-is g)
+  removed-renewed = omega arith
 
   pub fit-renewed : Fit (renewed s t) t
   unfolding renewed done
@@ -105,32 +105,31 @@ module _ {s : Transmission} {t : ℕ} (g : Fit s t) where
         offset = g .offset;
         since = g .since;
         enough = omega arith;
-        gone = rw removed-renewed (div-mul-le-self (done s t - inTicks (lead s)) (inTicks (tail s)));
+        gone = rw (removed-renewed, finished-is g) (div-mul-le-self (done s t - inTicks (lead s)) (inTicks (tail s)));
       }
 
   pub pace-renewed : pace.renewed (paceAt s t) (s .fields .repeat) ≡ paceAt (renewed s t) t
-  unfolding paceAt renewed done pace.renewed
+  unfolding paceAt renewed done pace.renewed pace.finished
   pace-renewed = ap₂ (paceOf (lead s) (tail s)) copies at
     where
-      copies : suc (s .fields .repeat) ≡ renewed s t .copies - removed (renewed s t)
-      copies = omega (arith, begun-is g)
+      copies : s .fields .repeat ≡ renewed s t .copies - removed (renewed s t)
+      copies = omega arith
 
-      at : done s t - removed s * inTicks (tail s) - (pace.begun (paceAt s t) - 1) * inTicks (tail s)
+      at : done s t - removed s * inTicks (tail s) - pace.finished (paceAt s t) * inTicks (tail s)
           ≡ done s t - removed (renewed s t) * inTicks (tail s)
       at =
-          rw (finished (paceAt s t), removed-renewed)
+          rw (removed-renewed, finished-is g)
           (less-left (inTicks (lead s)) (inTicks (tail s)) (tail-pos g) (removed s) (done s t) (g .gone))
 
-  -- behind the copy in hand, not yet finished, there is another
+  -- with a repeat of 1 or more the copy in hand is still to be finished
   pub renewed-runs : complete (renewed s t) t ≡ false
   unfolding complete renewed done
   renewed-runs =
-      let b = begun s t in
-      let low = mul-le-mul-right {m = b} {n = b + s .fields .repeat} (inTicks (tail s)) (omega arith) in
-      let e = ap (λ (n : ℕ). n * inTicks (tail s)) (begun-is g) in
+      let b = finished s t in
+      let low = mul-le-mul-right {m = suc b} {n = b + s .fields .repeat} (inTicks (tail s)) (omega (arith, g .within .repeat-least)) in
+      let e = ap (λ (n : ℕ). n * inTicks (tail s)) (finished-is g) in
       let d = lt-div-mul-add {a = done s t - inTicks (lead s)} {b = inTicks (tail s)} (tail-pos g) in
-      lt-leb (total (renewed s t)) (done s t)
-      (omega (arith, total-is fit-renewed, suc-mul ((done s t - inTicks (lead s)) / inTicks (tail s)) (inTicks (tail s))))
+      lt-leb (total (renewed s t)) (done s t) (omega (arith, total-is fit-renewed, suc-mul b (inTicks (tail s))))
 
 -- ---- started
 module _ (f : Fields) (ps : List Pair) (t : ℕ) where

@@ -1,5 +1,5 @@
 -- The hub's record of a transmission at a moment: what proofs/Paced.antt and proofs/Carried.antt say is the meaning's transmission.
-use Prim.Native.Nat.{ℕ, suc, _-_, _*_, _/_, _≤_, _<_}
+use Prim.Native.Nat.{ℕ, _-_, _*_, _/_, _≤_, _<_}
 use lib.ListN.{length, take, drop}
 use Rattle.meaning.specs.Time.{inTicks, Transmission, done}
 use Rattle.code.specs.Accepted.{Accepted}
@@ -9,7 +9,7 @@ use Rattle.pace.specs.Pace.{periodsOf, paceOf}
 
 -- the copies that renewals took off the record
 abbrev pub removed : Transmission → ℕ
-removed s = s .copies - suc (s .fields .repeat)
+removed s = s .copies - s .fields .repeat
 
 -- what the pairs before the offset last, and those from it on
 abbrev pub lead : Transmission → ℕ

@@ -12,7 +12,7 @@ enum-known-sending c = search needs
 renewed-requires : tie.Need-renewed-requires
 renewed-requires c κs =
     let s = rw (c .before .before .before .sending .given .1) at (c .before .before .before .before .before .pre) in
-    (s .paced, s .repeat-high)
+    s .paced
 
 with-sending-requires : tie.Need-with-sending-requires
 with-sending-requires c κs = search needs

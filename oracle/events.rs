@@ -194,9 +194,8 @@ impl Frames {
     fn edge(&mut self) -> Option<u32> {
         let port = self.random.between(1, 3);
         let sending = self.hub.connector(port).sending()?;
-        let done = sending.done_at(self.hub.now);
-        let begun = sending.copies.iter().filter(|copy| done.reaches(copy.begins)).count().checked_sub(1)?;
-        let copy = &sending.copies[begun..][self.random.pick(&[0, 0, 1]).min(sending.copies.len() - begun - 1)];
+        let finished = sending.finished_at(self.hub.now);
+        let copy = &sending.copies[finished..][self.random.pick(&[0, 0, 1]).min(sending.copies.len() - finished - 1)];
         let counts = self.random.between(1, copy.counts.len() as u64) as usize;
         let place = Periods(copy.begins.0 + copy.counts[..counts].iter().map(|count| u128::from(*count)).sum::<u128>());
         let moment = sending.first_moment_at(place).0 + self.random.pick(&[0, 1, 1, 2]);

@@ -1,8 +1,8 @@
 // The carriers of a fresh hub some microseconds after a sendir to connector 1.
 use crate::say;
+use crate::sending;
 use hub::Hub;
 use pace::Micros;
-use reply::Reply;
 
 fn say_carrier(on: bool) {
     if on {
@@ -27,12 +27,8 @@ fn others_off(carriers: [bool; Hub::CONNECTORS]) -> bool {
 // Connector 1's carrier is as expected; the others transmit nothing.
 fn carrier_vector(line: &[u8], micros: u64, expected: bool) {
     let mut store = [0u16; Hub::COUNTS];
-    let mut reply = [0u8; Reply::ROOM];
-    let fresh = Hub::fresh();
-    let answered = fresh.line(&mut store, 0, line, &mut reply);
-    let change = answered.change;
-    let sending = fresh.applied(change);
-    let waited = sending.wait(Micros(micros));
+    let started = sending::sent(Hub::fresh(), &mut store, line);
+    let waited = started.wait(Micros(micros));
     let later = waited.hub;
     let carriers = later.carriers(&store);
     let got = carriers[0];

@@ -16,7 +16,9 @@ use writer::sendir::Written;
 mod carriers;
 mod fill;
 mod handing;
+mod renewals;
 mod say;
+mod sending;
 
 fn say_read(read: Code) {
     match read {
@@ -330,4 +332,5 @@ fn main() {
     wait_vector(1000000000, 0);
     wait_vector(1000000001, 103);
     carriers::vectors();
+    renewals::vectors();
 }

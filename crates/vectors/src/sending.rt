@@ -1,7 +1,7 @@
 // A hub that hears lines of connection 0.
 use hub::Hub;
 use reply::Reply;
-ghost use Rattle.hub.specs.Hub.{SoundHub};
+ghost use Rattle.hub.specs.Record.{SoundHub};
 
 pub fn sent(hub: Hub, store: &mut [u16; Hub::COUNTS], line: &[u8]) -> Hub
     requires { ⌜ SoundHub hub ⌝ }

@@ -1,5 +1,5 @@
--- `vectors::carriers::carrier_vector` meets its contract: a fresh hub is sound, and so it is after a line and after a wait.
-use Rattle.hub.proofs.Keeps.{fresh-sound, line-in-range, line-sound, wait-sound}
+-- `vectors::carriers::carrier_vector` meets its contract.
+use Rattle.hub.proofs.Keeps.{fresh-sound, wait-sound}
 use borrow.Author.Needs.{needs}
 use Rattle.vectors.proofs.carriers.carrier_vector.Statement.{statement}
 use Rattle.vectors.proofs.carriers.carrier_vector.Tie as tie
@@ -7,30 +7,14 @@ use Rattle.vectors.proofs.carriers.carrier_vector.Tie as tie
 fresh-requires : tie.Need-fresh-requires
 fresh-requires c κs = search needs
 
-slice-aggregate-line : tie.Need-slice-aggregate-line
-slice-aggregate-line c = search needs
-
-line-requires : tie.Need-line-requires
-line-requires c κs = rw (c .before .before .fresh .ensures) fresh-sound
-
-applied-requires : tie.Need-applied-requires
-applied-requires c κs = rw (c .before .line .ensures .writes .result) (line-in-range _ _ _ _ _)
+sent-requires : tie.Need-sent-requires
+sent-requires c κs = rw (c .before .fresh .ensures) fresh-sound
 
 wait-requires : tie.Need-wait-requires
-wait-requires c κs =
-    let answered = c .before .before in
-    let begun = answered .before .before .before in
-    rw (c .applied .ensures, answered .line .ensures .writes .result) (line-sound _ _ _ _ _ (rw (begun .fresh .ensures) fresh-sound))
+wait-requires c κs = search needs
 
 carriers-requires : tie.Need-carriers-requires
-carriers-requires c κs =
-    let waited = c .before .before in
-    let changed = waited .before in
-    let answered = changed .before .before in
-    let begun = answered .before .before .before in
-    rw (waited .wait .ensures)
-    (wait-sound _ _
-    (rw (changed .applied .ensures, answered .line .ensures .writes .result) (line-sound _ _ _ _ _ (rw (begun .fresh .ensures) fresh-sound))))
+carriers-requires c κs = rw (c .before .before .wait .ensures) (wait-sound _ _ (c .before .before .before .sent .ensures))
 
 array-read-got : tie.Need-array-read-got
 array-read-got c = search needs
@@ -85,9 +69,7 @@ carrier-vector-spec =
     tie.close
     (tie.spec
     fresh-requires
-    slice-aggregate-line
-    line-requires
-    applied-requires
+    sent-requires
     wait-requires
     carriers-requires
     array-read-got

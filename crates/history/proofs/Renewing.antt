@@ -114,7 +114,7 @@ module _ (h : List Call) (p : ℕ) (s : Transmission) (air : onAir p (logOf h) �
     unchanged : s .copies ≡ finished s (now (logOf h)) + s .fields .repeat → onAir p (logOf (call ∷ h)) ≡ some s
     unchanged n = renewed-exact ∙ ap (λ (m : ℕ). some (record { fields = s .fields; pairs = s .pairs; start = s .start; copies = m })) (sym n)
 
-    -- Two renewals in one copy give one total: since the one before, no copy was finished.
+    -- Two renewals in one copy give one total: where no copy was finished since the one before, nothing changes.
     pub renewed-in-one-copy : (since earlier : List Deed) → logOf h ≡ since ++ (event (renewed p) ∷ earlier) → all (spares p) since ≡ true
         → finished s (now (logOf h)) ≡ finished s (now earlier) → onAir p (logOf (call ∷ h)) ≡ some s
     unfolding time.renewed
@@ -132,7 +132,7 @@ module _ (h : List Call) (p : ℕ) (s : Transmission) (air : onAir p (logOf h) �
             let same : time.renewed r (now earlier) ≡ s = Option·some-injective _ _ f in
             rw (← same) (ap (λ (m : ℕ). m + r .fields .repeat) (sym (finished-renewed r (now earlier) (now earlier))))
 
-    -- Nor does a renewal in the first copy.
+    -- A renewal in the first copy changes nothing either.
     pub renewed-in-first-copy : (since earlier : List Deed) (connection : ℕ)
         → logOf h ≡ since ++ (event (started p connection (s .fields) (s .pairs)) ∷ earlier) → all (spares p) since ≡ true
         → finished s (now (logOf h)) ≡ 0 → onAir p (logOf (call ∷ h)) ≡ some s

@@ -194,7 +194,7 @@ impl Frames {
     fn edge(&mut self) -> Option<u32> {
         let port = self.random.between(1, 3);
         let sending = self.hub.connector(port).sending()?;
-        let finished = sending.finished_at(self.hub.now);
+        let finished = sending.copies_finished(self.hub.now);
         let copy = &sending.copies[finished..][self.random.pick(&[0, 0, 1]).min(sending.copies.len() - finished - 1)];
         let counts = self.random.between(1, copy.counts.len() as u64) as usize;
         let place = Periods(copy.begins.0 + copy.counts[..counts].iter().map(|count| u128::from(*count)).sum::<u128>());

@@ -1,7 +1,7 @@
-//! The oracle: a second hub, to be compared with the bench byte for byte. It was written from document 01 and its settled readings alone, by hands that had
-//! not seen the proved code, and in another style: moments are absolute, fractions exact, waveforms written out copy by copy, and nothing that
-//! happened is forgotten; the present state is read off the history. Words in quotation marks are document 01's, or 02's
-//! where a request of that changed them.
+//! The oracle: a second hub, to be compared with the bench byte for byte. It was written from document 01 and its settled readings, and changed
+//! by request 2 of document 02, by hands that had not seen the proved code, and in another style: moments are absolute, fractions exact,
+//! waveforms written out copy by copy, and nothing that happened is forgotten; the present state is read off the history. Words in quotation
+//! marks are document 01's where nothing else is said.
 //! The program reads the bench's script on standard input and prints the bench's output.
 
 use std::io::{self, Read, Write};
@@ -228,12 +228,6 @@ impl Sending {
         Done { top: t * u128::from(self.command.freq), bottom: 1_000_000 }
     }
 
-    /// The copies whose end is reached.
-    pub fn finished_at(&self, moment: Moment) -> usize {
-        let done = self.done_at(moment);
-        self.copies.iter().filter(|copy| done.reaches(copy.ends())).count()
-    }
-
     /// The first whole microsecond when the fraction reaches a place, found by halving: at one hertz or more it is reached by `late`.
     pub fn first_moment_at(&self, place: Periods) -> Moment {
         let (mut early, mut late) = (self.told[0].0 .0, self.told[0].0 .0 + place.0 * 1_000_000);
@@ -266,10 +260,15 @@ impl Sending {
         }
     }
 
-    /// Document 02, request 2: "the total becomes copies finished plus repeat; at an exact boundary the copy just ended is finished".
+    /// How many copies have reached their end. Document 02, request 2: "at an exact boundary the copy just ended is finished."
+    pub fn copies_finished(&self, moment: Moment) -> usize {
+        let done = self.done_at(moment);
+        self.copies.iter().filter(|copy| done.reaches(copy.ends())).count()
+    }
+
+    /// Document 02, request 2: "From now on the total becomes copies finished plus repeat". The copy in hand is one of those `repeat`.
     fn renew(&mut self, now: Moment, line: &[u8]) {
-        let finished = self.finished_at(now);
-        self.write_out(finished + self.command.repeat as usize);
+        self.write_out(self.copies_finished(now) + self.command.repeat as usize);
         self.told.push((now, line.to_vec()));
     }
 }

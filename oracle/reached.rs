@@ -102,7 +102,7 @@ impl Step<'_> {
     /// The renewal came in the copy in which the one before came.
     fn renewed_twice_in_a_copy(&self) -> bool {
         self.renewed.is_some_and(|sending| match sending.told[1..] {
-            [.., (before, _), (now, _)] => sending.finished_at(before) == sending.finished_at(now),
+            [.., (before, _), (now, _)] => sending.copies_finished(before) == sending.copies_finished(now),
             _ => false,
         })
     }
@@ -240,7 +240,7 @@ fn moments() -> Vec<Aim> {
         aim("renewal 1 us after a copy boundary", |step| step.renewed_from_boundary(1, true)),
         aim("renewal just after an inexact boundary", |step| step.renewed_from_boundary(0, false)),
         aim("renewal just before an inexact boundary", |step| step.renewed_from_boundary(-1, false)),
-        aim("renewal in the first copy", |step| step.renewed.is_some_and(|sending| sending.finished_at(step.hub.now) == 0)),
+        aim("renewal in the first copy", |step| step.renewed.is_some_and(|sending| sending.copies_finished(step.hub.now) == 0)),
         aim("two renewals in one copy", |step| step.renewed_twice_in_a_copy()),
         aim("renewal with repeat 1", |step| step.renewed.is_some_and(|sending| sending.command.repeat == 1)),
         aim("the same line at completion starts anew", |step| step.started_anew()),

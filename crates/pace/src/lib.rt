@@ -92,16 +92,10 @@ impl Pace {
         requires { ⌜ SoundPace self ⌝ }
         ensures { λ r. ⌜ r ≡ renewed self repeat ⌝ }
     {
-        let finished = self.finished();
-        let at = Ticks(self.at.0 - finished * (self.tail.0 as u64 * 1000000));
-        let lead = self.lead;
-        let tail = self.tail;
-        Pace {
-            lead,
-            tail,
-            copies: repeat,
-            at,
-        }
+        let behind = self.finished() * (self.tail.0 as u64 * 1000000);
+        let mut next = self.moved(Ticks(self.at.0 - behind));
+        next.copies = repeat;
+        next
     }
 
     // The place in the pairs, in ticks.

@@ -1,4 +1,4 @@
--- A transmission renewed any number of times stays exact, and what the hub's record holds of it within its bounds.
+-- A transmission renewed any number of times stays exact, and no copy of it is sent too many.
 use Prim.Native.Nat.{ℕ, _+_, _≤_}
 use mathlib.Core.Path.{_≡_, refl, sym, ap, subst, _∙_}
 use mathlib.Core.Bool.{true}

@@ -1,5 +1,5 @@
 -- Bounds of a sound pace, and the part of its way that the finished copies take.
-use Prim.Native.Nat.{ℕ, _+_, _-_, _*_, _/_, _%_, _≤_, _<_}
+use Prim.Native.Nat.{ℕ, _+_, _-_, _*_, _%_, _≤_, _<_}
 use mathlib.Core.Path.{_≡_}
 use native.Mathlib.Nat.{mul-le-mul, mod-le, div-mul-le-self, zero-div, lt-div-mul-add}
 use native.Mathlib.Omega.{arith}

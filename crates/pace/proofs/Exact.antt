@@ -1,12 +1,9 @@
 -- What the times mean: the moment is the first, waits add up, and the copies finished are those whose end is reached.
-use Prim.Native.Nat.{ℕ, suc, _+_, _-_, _*_, _≤_, _<_}
-use mathlib.Core.Path.{_≡_, ap, _∙_}
-use mathlib.Core.Logic.{_⊎_, inl, inr}
-use native.Mathlib.Nat.{add-mul, suc-mul, mul-assoc, mul-le-mul, div-lt-iff-lt-mul, le-div-iff-mul-le, lt-div-mul-add, mul-add-div-right, mul-div-cancel}
+use Prim.Native.Nat.{ℕ, _+_, _-_, _*_, _≤_, _<_}
+use mathlib.Core.Path.{_≡_}
+use native.Mathlib.Nat.{add-mul, mul-assoc, mul-le-mul, div-lt-iff-lt-mul, le-div-iff-mul-le, lt-div-mul-add, mul-add-div-right}
 use native.Mathlib.Omega.{arith}
-use borrow.Author.Tests.{le-leb, lt-leb, ltb-true, ltb-false}
-use lib.Dec.{ltb}
-use Rattle.laws.proofs.Choice.{by-test}
+use borrow.Author.Tests.{le-leb, lt-leb}
 use Rattle.pace.specs.declared.Pace.{Pace}
 use Rattle.pace.specs.declared.Passed.the-variants.{Complete}
 use Rattle.meaning.specs.Time.{inTicks, firstMicro}

@@ -6,7 +6,7 @@ ghost use Prim.Native.Nat.{_-_, _*_, _≤_};
 ghost use Rattle.laws.specs.Lists.{numbers};
 ghost use Rattle.code.specs.Limits.{mostPairs};
 ghost use Rattle.meaning.specs.Time.{lasts};
-ghost use Rattle.pace.specs.Pace.{SoundPace, WideCount, periods, micros, ticks, started, endOf, finished, renewed, placeOf, movedTo, passed};
+ghost use Rattle.pace.specs.Pace.{SoundPace, WideCount, periods, ticks, started, endOf, finished, renewed, placeOf, movedTo, passed};
 
 // A number of carrier periods.
 pub struct Periods(pub u32);

@@ -10,11 +10,13 @@ use Rattle.words.specs.declared.Pair.{Pair}
 use Rattle.words.specs.declared.Fields.{Fields}
 use Rattle.meaning.specs.Time.{Transmission, complete}
 use Rattle.meaning.specs.Time as time
+use Rattle.meaning.specs.Lamp.{Lamp, dark, turned}
 
--- connector p got another mode; its contact was read
+-- connector p got another mode; its contact was read; its lamp got a target, and a ramp to it
 pub data Setting : Type 0 where
   changed : List ℕ → Setting
   felt : ℕ → Setting
+  lit : ℕ → ℕ → Setting
 
 -- a transmission was started on connector p by a connection; that on connector p was renewed, or halted; a connection left
 pub data Event : Type 0 where
@@ -44,6 +46,7 @@ modeOf p [] = bytes "IR"
 modeOf p (passed n ∷ log) = modeOf p log
 modeOf p (setting q (changed mode) ∷ log) = cond (eqb q p) mode (modeOf p log)
 modeOf p (setting q (felt value) ∷ log) = modeOf p log
+modeOf p (setting q (lit target ramp) ∷ log) = modeOf p log
 modeOf p (switched q state ∷ log) = modeOf p log
 modeOf p (event x ∷ log) = modeOf p log
 
@@ -53,8 +56,19 @@ contactOf p [] = none
 contactOf p (passed n ∷ log) = contactOf p log
 contactOf p (setting q (changed mode) ∷ log) = cond (eqb q p) none (contactOf p log)
 contactOf p (setting q (felt value) ∷ log) = cond (eqb q p) (some value) (contactOf p log)
+contactOf p (setting q (lit target ramp) ∷ log) = contactOf p log
 contactOf p (switched q state ∷ log) = contactOf p log
 contactOf p (event x ∷ log) = contactOf p log
+
+-- its lamp, by its last target and the moment of it; "A connector entering this mode is at 0 with target 0", and one that leaves it has no lamp
+abbrev pub lampOf : ℕ → List Deed → Lamp
+lampOf p [] = dark
+lampOf p (passed n ∷ log) = lampOf p log
+lampOf p (setting q (changed mode) ∷ log) = cond (eqb q p) dark (lampOf p log)
+lampOf p (setting q (felt value) ∷ log) = lampOf p log
+lampOf p (setting q (lit target ramp) ∷ log) = cond (eqb q p) (turned (lampOf p log) target ramp (now log)) (lampOf p log)
+lampOf p (switched q state ∷ log) = lampOf p log
+lampOf p (event x ∷ log) = lampOf p log
 
 -- "every relay open (0)", then as it was last switched
 abbrev pub relayOf : ℕ → List Deed → ℕ

@@ -16,7 +16,8 @@ use Rattle.meaning.specs.Line as text
 use Rattle.meaning.specs.Line.{is, number, within, isAddress, addressed, codeIn}
 use Rattle.words.specs.Pairs.{countsOf}
 use Rattle.meaning.specs.Time.{Transmission, complete, finish, carrier}
-use Rattle.meaning.specs.Log.{Deed, passed, setting, switched, event, changed, felt, started, renewed, halted, left, now, modeOf, contactOf, relayOf, ownerOf, isOwner, onAir}
+use Rattle.meaning.specs.Lamp.{Lamp, level, turned}
+use Rattle.meaning.specs.Log.{Deed, passed, setting, switched, event, changed, felt, lit, started, renewed, halted, left, now, modeOf, contactOf, lampOf, relayOf, ownerOf, isOwner, onAir}
 
 -- `completeir,1:p,id` at a moment from the wait's start, to its owner
 pub record Completion : Type 0 where
@@ -100,6 +101,13 @@ module _ (log : List Deed) (connection : ℕ) (line : List ℕ) where
   abbrev pub inSensor : Bool
   inSensor = is "SENSOR" (modeOf p log)
 
+  abbrev pub inLighting : Bool
+  inLighting = is "LED_LIGHTING" (modeOf p log)
+
+  -- 013 "sendir or stopir to a connector in SENSOR", and by request 3 to one in LED_LIGHTING: "sendir and stopir there get 013"
+  abbrev pub silent : Bool
+  silent = inSensor || inLighting
+
   -- a request without an address: its name is all of it, and its reply is always the same
   abbrev pub fixed : List ℕ → Row
   fixed words = row (more 1 ∷ []) (reply words [])
@@ -115,7 +123,7 @@ module _ (log : List Deed) (connection : ℕ) (line : List ℕ) where
   set-IR =
       let mode = field 2 in
       row (address 1 1
-      ((not (is "IR" mode || is "SENSOR" mode || is "IR_BLASTER" mode) ⇒ wrong 23)
+      ((not (is "IR" mode || is "SENSOR" mode || is "IR_BLASTER" mode || is "LED_LIGHTING" mode) ⇒ wrong 23)
       ∷ ((is "IR_BLASTER" mode && not (eqb p 3)) ⇒ wrong 14)
       ∷ more 3
       ∷ (isSome (onAir p log) ⇒ wrong 29)
@@ -148,7 +156,7 @@ module _ (log : List Deed) (connection : ℕ) (line : List ℕ) where
       let f : Fields = record { id = number (field 2); freq = freq; repeat = cond (ltb 20 repeat) 20 repeat; offset = offset } in
       let starts = does (taken []) (event (started p connection f (code .pairs)) ∷ []) in
       row (address 1 1
-      ((inSensor ⇒ wrong 13)
+      ((silent ⇒ wrong 13)
       ∷ (not (within 0 65535 (field 2)) ⇒ wrong 4)
       ∷ (not (within 15000 500000 (field 3)) ⇒ wrong 5)
       ∷ (not (within 1 999999 (field 4)) ⇒ wrong 6)
@@ -164,8 +172,23 @@ module _ (log : List Deed) (connection : ℕ) (line : List ℕ) where
   unfoldable pub stopir : Row
   stopir =
       let another = isSome (onAir p log) && not (isOwner connection (ownerOf p log)) in
-      row (address 1 1 (more 2 ∷ (inSensor ⇒ wrong 13) ∷ []))
+      row (address 1 1 (more 2 ∷ (silent ⇒ wrong 13) ∷ []))
       (does (replied (addressed "stopir," 1 p ++ bytes "\r") (cond another (ownerOf p log) none)) (event (halted p) ∷ []))
+
+  -- `LED_LIGHTING`, address, "present level, target, with no comma at the end": those of a lamp
+  abbrev pub lampLine : Lamp → List ℕ
+  lampLine x = text.line "LED_LIGHTING," 1 p (decimal (level x (now log)) ++ bytes "," ++ decimal (x .target))
+
+  -- "a target of 1 to 100 and a ramp of 0 to 10"; "023 for a bad target, bad ramp or a connector not in this mode, then 017 for a surplus"
+  unfoldable pub set-LED-LIGHTING : Row
+  set-LED-LIGHTING =
+      let target = number (field 2) in
+      let ramp = number (field 3) in
+      row (address 1 1 ((not (within 1 100 (field 2) && within 0 10 (field 3) && inLighting) ⇒ wrong 23) ∷ more 4 ∷ []))
+      (reply (lampLine (turned (lampOf p log) target ramp (now log))) (setting p (lit target ramp) ∷ []))
+
+  unfoldable pub get-LED-LIGHTING : Row
+  get-LED-LIGHTING = row (address 1 1 ((not inLighting ⇒ wrong 23) ∷ more 2 ∷ [])) (reply (lampLine (lampOf p log)) [])
 
   -- 001 "the name up to the first comma is unknown (an empty line too)"
   unfoldable pub request : Row
@@ -178,6 +201,8 @@ module _ (log : List Deed) (connection : ℕ) (line : List ℕ) where
       ∷ (is "getstate" (field 0) ⇒ getstate)
       ∷ (is "sendir" (field 0) ⇒ sendir)
       ∷ (is "stopir" (field 0) ⇒ stopir)
+      ∷ (is "set_LED_LIGHTING" (field 0) ⇒ set-LED-LIGHTING)
+      ∷ (is "get_LED_LIGHTING" (field 0) ⇒ get-LED-LIGHTING)
       ∷ []) (row [] (no 1))
 
 -- ---- completions: what is due on connector p in the next n microseconds, and all "ordered by moment from the wait's start, then by port"
@@ -239,11 +264,17 @@ logOf (call ∷ h) = logged (logOf h) call
 abbrev pub carriers : List Deed → List Bool
 carriers log = map (λ p. holds (λ s. carrier s (now log)) (onAir p log)) ports
 
--- what a call is told, and each connector's carrier after it; so for a list of calls, the first of them first
+-- for each connector its lamp's level now, in percent: 0 where there is no lamp
+abbrev pub levels : List Deed → List ℕ
+levels log = map (λ p. level (lampOf p log) (now log)) ports
+
+-- what a call is told, and each connector's carrier and level after it; so for a list of calls, the first of them first
 pub record Said : Type 0 where
   pub answer : Answer
   pub carriers : List Bool
+  pub levels : List ℕ
 
 abbrev pub said : List Deed → List Call → List Said
 said log [] = []
-said log (call ∷ l) = record { answer = answerOf (judge log call); carriers = carriers (logged log call) } ∷ said (logged log call) l
+said log (call ∷ l) =
+    record { answer = answerOf (judge log call); carriers = carriers (logged log call); levels = levels (logged log call) } ∷ said (logged log call) l

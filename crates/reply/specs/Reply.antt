@@ -10,7 +10,7 @@ use Rattle.request.specs.declared.Fixed.{Fixed as FixedKind}
 use Rattle.request.specs.declared.Fixed.the-variants.{Devices, Version}
 use Rattle.request.specs.Mode.{modeWord}
 use Rattle.reply.specs.declared.Reply.{Reply}
-use Rattle.reply.specs.declared.Reply.the-variants.{Fixed, Error, Mode, State, Complete, Busy, Stopped}
+use Rattle.reply.specs.declared.Reply.the-variants.{Fixed, Error, Mode, State, Complete, Busy, Stopped, Lamp}
 
 -- a word and m:p behind it
 abbrev pub addressText : List ℕ → Place → List ℕ
@@ -29,6 +29,8 @@ replyText (State place state) = addressText (bytes "state,") place ++ (bytes ","
 replyText (Complete place id) = addressText (bytes "completeir,") place ++ (bytes "," ++ decimal id ++ bytes "\r")
 replyText (Busy place id) = addressText (bytes "busyIR,") place ++ (bytes "," ++ decimal id ++ bytes "\r")
 replyText (Stopped place) = addressText (bytes "stopir,") place ++ bytes "\r"
+replyText (Lamp place level target) =
+    addressText (bytes "LED_LIGHTING,") place ++ (bytes "," ++ (decimal level ++ bytes "," ++ decimal target) ++ bytes "\r")
 
 -- some text and a CR behind it
 pub record EndsWithCr (text : List ℕ) : Type 0 where

@@ -17,17 +17,40 @@ ghost use Rattle.reply.specs.Reply.{addressText, fixedText, replyText};
 pub enum Reply {
     Fixed(Fixed),
     // ERR_m:p,nnn
-    Error { number: u64, place: Place },
+    Error {
+        number: u64,
+        place: Place,
+    },
     // IR,m:p,mode
-    Mode { place: Place, mode: Mode },
+    Mode {
+        place: Place,
+        mode: Mode,
+    },
     // state,m:p,s
-    State { place: Place, state: u64 },
+    State {
+        place: Place,
+        state: u64,
+    },
     // completeir,m:p,id
-    Complete { place: Place, id: u64 },
+    Complete {
+        place: Place,
+        id: u64,
+    },
     // busyIR,m:p,id
-    Busy { place: Place, id: u64 },
+    Busy {
+        place: Place,
+        id: u64,
+    },
     // stopir,m:p
-    Stopped { place: Place },
+    Stopped {
+        place: Place,
+    },
+    // LED_LIGHTING,m:p,level,target
+    Lamp {
+        place: Place,
+        level: u64,
+        target: u64,
+    },
 }
 
 impl Reply {
@@ -56,6 +79,18 @@ pub fn put_last(buf: &mut [u8], at: usize, n: u64) -> usize
     put_word(buf, b, b"\r")
 }
 
+// Two numbers, each behind a comma, and the CR.
+pub fn put_two(buf: &mut [u8], at: usize, n: u64, last: u64) -> usize
+    requires { ⌜ at + 43 ≤ length (now buf) ⌝ }
+    ensures { λ r. ⌜ Put (now (buf .entry)) at (bytes "," ++ (decimal n ++ bytes "," ++ decimal last) ++ bytes "\r") (now (buf .exit)) r ⌝ }
+{
+    let a = put_word(buf, at, b",");
+    let b = put_number(buf, a, n);
+    let c = put_word(buf, b, b",");
+    let d = put_number(buf, c, last);
+    put_word(buf, d, b"\r")
+}
+
 // A comma, three digits and the CR.
 fn put_error_number(buf: &mut [u8], at: usize, n: u64) -> usize
     requires { ⌜ at + 5 ≤ length (now buf) ⌝ }
@@ -69,13 +104,14 @@ fn put_error_number(buf: &mut [u8], at: usize, n: u64) -> usize
 }
 
 pub fn put_mode(buf: &mut [u8], at: usize, mode: Mode) -> usize
-    requires { ⌜ at + 12 ≤ length (now buf) ⌝ }
+    requires { ⌜ at + 14 ≤ length (now buf) ⌝ }
     ensures { λ r. ⌜ Put (now (buf .entry)) at (bytes "," ++ modeWord mode ++ bytes "\r") (now (buf .exit)) r ⌝ }
 {
     match mode {
         Mode::Ir => put_word(buf, at, b",IR\r"),
         Mode::Sensor => put_word(buf, at, b",SENSOR\r"),
         Mode::IrBlaster => put_word(buf, at, b",IR_BLASTER\r"),
+        Mode::LedLighting => put_word(buf, at, b",LED_LIGHTING\r"),
     }
 }
 
@@ -124,6 +160,14 @@ pub fn put_reply(buf: &mut [u8], reply: Reply) -> usize
         Reply::Stopped { place } => {
             let a = put_address(buf, b"stopir,", place);
             put_word(buf, a, b"\r")
+        }
+        Reply::Lamp {
+            place,
+            level,
+            target,
+        } => {
+            let a = put_address(buf, b"LED_LIGHTING,", place);
+            put_two(buf, a, level, target)
         }
     }
 }

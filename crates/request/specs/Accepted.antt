@@ -8,7 +8,7 @@ use Rattle.laws.specs.Checks.{oneOf}
 use Rattle.words.specs.Places.{connectors, relays}
 use Rattle.request.specs.declared.Place.{Place}
 use Rattle.request.specs.declared.Ask.{Ask}
-use Rattle.request.specs.declared.Ask.the-variants.{SetMode, GetMode, GetContact, Send, Stop}
+use Rattle.request.specs.declared.Ask.the-variants.{SetMode, GetMode, GetContact, Send, Stop, SetLamp, GetLamp}
 use Rattle.request.specs.declared.Turn.{Turn}
 use Rattle.request.specs.declared.Turn.the-variants.{Set, Get}
 use Rattle.request.specs.declared.Request.{Request}
@@ -39,13 +39,15 @@ pub data PossibleFault : ℕ → Place → Type 0 where
   no-blaster : {place : Place} → ConnectorAt place → (place .port ≡ 3 → ⊥) → PossibleFault 14 place
   no-state : {place : Place} → RelayAt place → PossibleFault 23 place
 
--- a mode is one that the connector may have
+-- a mode is one that the connector may have; "a target of 1 to 100 and a ramp of 0 to 10"
 abbrev pub AskWithin : ℕ → Ask → Type 0
 AskWithin port (SetMode mode) = mayHave port mode ≡ true
 AskWithin port GetMode = Unit
 AskWithin port GetContact = Unit
 AskWithin port (Send at) = Unit
 AskWithin port Stop = Unit
+AskWithin port (SetLamp target ramp more) = (1 ≤ target) × (target ≤ 100) × (ramp ≤ 10)
+AskWithin port (GetLamp more) = Unit
 
 -- "s is 0 or 1"
 abbrev pub TurnWithin : Turn → Type 0

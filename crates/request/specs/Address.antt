@@ -14,7 +14,7 @@ use Rattle.text.specs.declared.number.Number.{Number}
 use Rattle.text.specs.declared.number.Number.the-variants as number
 use Rattle.request.specs.declared.Place.{Place}
 use Rattle.request.specs.declared.name.Name.{Name}
-use Rattle.request.specs.declared.name.Name.the-variants.{SetIr, GetIr, SetState, GetState, SendIr, StopIr}
+use Rattle.request.specs.declared.name.Name.the-variants.{SetIr, GetIr, SetState, GetState, SendIr, StopIr, SetLamp, GetLamp}
 use Rattle.request.specs.declared.address.Part.{Part}
 use Rattle.request.specs.declared.address.Part.the-variants.{Missing, Digits}
 use Rattle.request.specs.declared.address.Address.{Address}
@@ -69,6 +69,8 @@ hasModule SetState m = eqb m 2
 hasModule GetState m = eqb m 1 || eqb m 2
 hasModule SendIr m = eqb m 1
 hasModule StopIr m = eqb m 1
+hasModule SetLamp m = eqb m 1
+hasModule GetLamp m = eqb m 1
 
 -- 0 where the address is one that the request takes
 unfoldable pub addressFault : Name → Place → ℕ

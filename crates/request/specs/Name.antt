@@ -9,7 +9,7 @@ use Rattle.text.specs.Field.{fieldIs}
 use Rattle.request.specs.declared.Fixed.{Fixed}
 use Rattle.request.specs.declared.Fixed.the-variants.{Devices, Version}
 use Rattle.request.specs.declared.name.Name.{Name}
-use Rattle.request.specs.declared.name.Name.the-variants.{SetIr, GetIr, SetState, GetState, SendIr, StopIr}
+use Rattle.request.specs.declared.name.Name.the-variants.{SetIr, GetIr, SetState, GetState, SendIr, StopIr, SetLamp, GetLamp}
 use Rattle.request.specs.declared.name.Word.{Word}
 use Rattle.request.specs.declared.name.Word.the-variants.{Alone, Named}
 use Rattle.request.specs.declared.name.WordRead.{WordRead}
@@ -28,6 +28,8 @@ nameOf SetState = bytes "setstate"
 nameOf GetState = bytes "getstate"
 nameOf SendIr = bytes "sendir"
 nameOf StopIr = bytes "stopir"
+nameOf SetLamp = bytes "set_LED_LIGHTING"
+nameOf GetLamp = bytes "get_LED_LIGHTING"
 
 abbrev pub wordOf : Word → List ℕ
 wordOf (Alone fixed) = fixedWord fixed
@@ -35,7 +37,9 @@ wordOf (Named name) = nameOf name
 
 -- every word
 abbrev pub words : List Word
-words = Alone Devices ∷ Alone Version ∷ Named SetIr ∷ Named GetIr ∷ Named SetState ∷ Named GetState ∷ Named SendIr ∷ Named StopIr ∷ []
+words =
+    Alone Devices ∷ Alone Version ∷ Named SetIr ∷ Named GetIr ∷ Named SetState ∷ Named GetState ∷ Named SendIr ∷ Named StopIr
+    ∷ Named SetLamp ∷ Named GetLamp ∷ []
 
 -- the first of some words that the line's first field is
 abbrev pub wordAmong : List Word → List ℕ → WordRead
@@ -45,11 +49,11 @@ wordAmong (w ∷ ws) s = cond (fieldIs (wordOf w) s) (Known w) (wordAmong ws s)
 unfoldable pub wordAt : List ℕ → WordRead
 wordAt s = wordAmong words s
 
--- the one word that can be the first field of a line with these first and fourth bytes: 100, 115, 95 and 118 are d, s, _ and v
-unfoldable pub candidate : ℕ → ℕ → Word
-candidate a d = first
+-- the one word that can be the first field of a line with these first, fourth and fifth bytes: 100, 115, 95, 118 and 76 are d, s, _, v and L
+unfoldable pub candidate : ℕ → ℕ → ℕ → Word
+candidate a d e = first
     ((eqb d 100 ⇒ cond (eqb a 115) (Named SendIr) (Alone Devices))
     ∷ (eqb d 115 ⇒ cond (eqb a 115) (Named SetState) (Named GetState))
-    ∷ (eqb d 95 ⇒ cond (eqb a 115) (Named SetIr) (Named GetIr))
+    ∷ (eqb d 95 ⇒ cond (eqb e 76) (cond (eqb a 115) (Named SetLamp) (Named GetLamp)) (cond (eqb a 115) (Named SetIr) (Named GetIr)))
     ∷ (eqb d 118 ⇒ Alone Version)
     ∷ []) (Named StopIr)

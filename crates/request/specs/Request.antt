@@ -12,7 +12,7 @@ use Rattle.text.specs.Field.{afterComma, fieldWithin}
 use Rattle.text.specs.declared.field.Field.{Field}
 use Rattle.text.specs.declared.field.Field.the-variants.{Bad, Good}
 use Rattle.request.specs.declared.Place.{Place}
-use Rattle.request.specs.declared.Ask.the-variants.{SetMode, GetMode, GetContact, Send, Stop}
+use Rattle.request.specs.declared.Ask.the-variants.{SetMode, GetMode, GetContact, Send, Stop, SetLamp, GetLamp}
 use Rattle.request.specs.declared.Turn.the-variants.{Set, Get}
 use Rattle.request.specs.declared.Request.{Request}
 use Rattle.request.specs.declared.Request.the-variants.{Fault, Fixed, Connector, Relay}
@@ -65,6 +65,21 @@ unfoldable pub getStateAt : List ℕ → Place → ℕ → Request
 getStateAt s place end =
     cond (eqb (place .m) 1) (alone s end (Connector place GetContact)) (alone s end (Relay place Get))
 
+-- set_LED_LIGHTING: 023 for its fields. Whether the connector is a lamp comes before 017, so that the request carries whether there is more.
+abbrev pub rampRead : List ℕ → Place → ℕ → Field → Request
+rampRead s place target Bad = Fault 23 place
+rampRead s place target (Good ramp end) = Connector place (SetLamp target ramp (ltb end (length s)))
+
+unfoldable pub rampAt : List ℕ → Place → ℕ → ℕ → Request
+rampAt s place target at = rampRead s place target (fieldWithin 0 10 s at)
+
+abbrev pub targetRead : List ℕ → Place → Field → Request
+targetRead s place Bad = Fault 23 place
+targetRead s place (Good target end) = rampAt s place target (afterComma s end)
+
+unfoldable pub setLampAt : List ℕ → Place → ℕ → Request
+setLampAt s place at = targetRead s place (fieldWithin 1 100 s at)
+
 -- behind an address that the request takes, which ends at a place; a sendir is read no further here
 abbrev pub atAddress : List ℕ → Name → Place → ℕ → Request
 atAddress s name.SetIr place end = setIrAt s place (afterComma s end)
@@ -73,6 +88,8 @@ atAddress s name.SetState place end = setStateAt s place (afterComma s end)
 atAddress s name.GetState place end = getStateAt s place end
 atAddress s name.SendIr place end = Connector place (Send (afterComma s end))
 atAddress s name.StopIr place end = alone s end (Connector place Stop)
+atAddress s name.SetLamp place end = setLampAt s place (afterComma s end)
+atAddress s name.GetLamp place end = Connector place (GetLamp (ltb end (length s)))
 
 -- 017 for the address, 002, 003
 abbrev pub addressRead : List ℕ → Name → Address → Request

@@ -112,6 +112,8 @@ fn has_module(name: Name, m: u64) -> bool
         Name::GetState => m == Place::INFRARED || m == Place::RELAY,
         Name::SendIr => m == Place::INFRARED,
         Name::StopIr => m == Place::INFRARED,
+        Name::SetLamp => m == Place::INFRARED,
+        Name::GetLamp => m == Place::INFRARED,
     }
 }
 

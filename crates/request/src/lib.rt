@@ -46,13 +46,16 @@ pub enum Fixed {
     Version,
 }
 
-// What is asked of a connector; a sendir's fields begin at a place of the line.
+// What is asked of a connector; a sendir's fields begin at a place of the line. Behind a lamp's request there may be more: that is 017, but only
+// where the connector is a lamp.
 pub enum Ask {
     SetMode(Mode),
     GetMode,
     GetContact,
     Send { at: usize },
     Stop,
+    SetLamp { target: u8, ramp: u8, more: bool },
+    GetLamp { more: bool },
 }
 
 // What is asked of a relay.

@@ -1,11 +1,12 @@
 // A connector's mode.
 ghost use mathlib.Core.Path.{_≡_};
-ghost use Rattle.request.specs.Mode.{modeAt, mayHave, isSensor, freshMode};
+ghost use Rattle.request.specs.Mode.{modeAt, mayHave, isSensor, isLighting, isSilent, freshMode};
 
 pub enum Mode {
     Ir,
     Sensor,
     IrBlaster,
+    LedLighting,
 }
 
 // A mode and the place where its field ends, or none.
@@ -30,6 +31,9 @@ pub fn mode_at(s: &[u8], at: usize) -> ModeRead
     if text::field::field_is(s, at, b"IR_BLASTER") {
         return ModeRead::Known(Mode::IrBlaster, at + 10);
     }
+    if text::field::field_is(s, at, b"LED_LIGHTING") {
+        return ModeRead::Known(Mode::LedLighting, at + 12);
+    }
     ModeRead::Unknown
 }
 
@@ -41,10 +45,11 @@ pub fn may_have(port: u64, mode: Mode) -> bool
         Mode::Ir => true,
         Mode::Sensor => true,
         Mode::IrBlaster => port == 3,
+        Mode::LedLighting => true,
     }
 }
 
-// Whether a connector in a mode reads its contact, and sends nothing.
+// Whether a connector in a mode reads its contact.
 pub fn is_sensor(mode: Mode) -> bool
     ensures { λ r. ⌜ r ≡ isSensor mode ⌝ }
 {
@@ -52,6 +57,31 @@ pub fn is_sensor(mode: Mode) -> bool
         Mode::Ir => false,
         Mode::Sensor => true,
         Mode::IrBlaster => false,
+        Mode::LedLighting => false,
+    }
+}
+
+// Whether it dims a lamp.
+pub fn is_lighting(mode: Mode) -> bool
+    ensures { λ r. ⌜ r ≡ isLighting mode ⌝ }
+{
+    match mode {
+        Mode::Ir => false,
+        Mode::Sensor => false,
+        Mode::IrBlaster => false,
+        Mode::LedLighting => true,
+    }
+}
+
+// Whether it transmits nothing.
+pub fn is_silent(mode: Mode) -> bool
+    ensures { λ r. ⌜ r ≡ isSilent mode ⌝ }
+{
+    match mode {
+        Mode::Ir => false,
+        Mode::Sensor => true,
+        Mode::IrBlaster => false,
+        Mode::LedLighting => true,
     }
 }
 

@@ -15,6 +15,8 @@ pub enum Name {
     GetState,
     SendIr,
     StopIr,
+    SetLamp,
+    GetLamp,
 }
 
 pub enum Word {
@@ -46,6 +48,8 @@ fn is_name(s: &[u8], name: Name) -> bool
         Name::GetState => field_is(s, 0, b"getstate"),
         Name::SendIr => field_is(s, 0, b"sendir"),
         Name::StopIr => field_is(s, 0, b"stopir"),
+        Name::SetLamp => field_is(s, 0, b"set_LED_LIGHTING"),
+        Name::GetLamp => field_is(s, 0, b"get_LED_LIGHTING"),
     }
 }
 
@@ -59,9 +63,9 @@ fn is_word(s: &[u8], word: Word) -> bool
     }
 }
 
-// The one word that can be the first field, by the line's first and fourth byte: no two words have both alike.
-fn candidate(first: u8, fourth: u8) -> Word
-    ensures { λ r. ⌜ r ≡ candidate first fourth ⌝ }
+// The one word that can be the first field, by the line's first, fourth and fifth byte: no two words have all three alike.
+fn candidate(first: u8, fourth: u8, fifth: u8) -> Word
+    ensures { λ r. ⌜ r ≡ candidate first fourth fifth ⌝ }
 {
     let s = first == b's';
     if fourth == b'd' {
@@ -79,6 +83,13 @@ fn candidate(first: u8, fourth: u8) -> Word
         };
     }
     if fourth == b'_' {
+        if fifth == b'L' {
+            return if s {
+                Word::Named(Name::SetLamp)
+            } else {
+                Word::Named(Name::GetLamp)
+            };
+        }
         return if s {
             Word::Named(Name::SetIr)
         } else {
@@ -95,7 +106,7 @@ fn candidate(first: u8, fourth: u8) -> Word
 pub fn word_at(s: &[u8]) -> WordRead
     ensures { λ r. ⌜ r ≡ wordAt (now (s .entry)) ⌝ }
 {
-    let word = candidate(byte_at(s, 0), byte_at(s, 3));
+    let word = candidate(byte_at(s, 0), byte_at(s, 3), byte_at(s, 4));
     if is_word(s, word) {
         WordRead::Known(word)
     } else {
@@ -124,5 +135,7 @@ pub fn name_end(name: Name) -> usize
         Name::GetState => 8,
         Name::SendIr => 6,
         Name::StopIr => 6,
+        Name::SetLamp => 16,
+        Name::GetLamp => 16,
     }
 }

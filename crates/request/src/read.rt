@@ -14,7 +14,7 @@ ghost use mathlib.Core.Path.{_≡_};
 ghost use Prim.Native.Nat.{_+_, _≤_};
 ghost use lib.ListN.{length, take, drop};
 ghost use Rattle.laws.specs.Lists.{all};
-ghost use Rattle.request.specs.Request.{isPrintable, fault, alone, setIrAt, setStateAt, getStateAt, addressed, atAddress, worded, readRequest};
+ghost use Rattle.request.specs.Request.{isPrintable, fault, alone, setIrAt, setStateAt, getStateAt, rampAt, setLampAt, addressed, atAddress, worded, readRequest};
 
 // The longest line that is read.
 pub const MOST_BYTES: usize = 4096;
@@ -117,6 +117,29 @@ fn get_state_at(s: &[u8], place: Place, end: usize) -> Request
     }
 }
 
+// The ramp behind a lamp's target.
+fn ramp_at(s: &[u8], place: Place, target: u8, at: usize) -> Request
+    ensures { λ r. ⌜ r ≡ rampAt (now (s .entry)) place target at ⌝ }
+{
+    match text::field::field_within(s, at, 0, 10) {
+        Field::Bad => Request::Fault { number: 23, place },
+        Field::Good(ramp, end) => {
+            let ramp = ramp as u8;
+            let more = end < s.len();
+            Request::Connector(place, Ask::SetLamp { target, ramp, more })
+        }
+    }
+}
+
+fn set_lamp_at(s: &[u8], place: Place, at: usize) -> Request
+    ensures { λ r. ⌜ r ≡ setLampAt (now (s .entry)) place at ⌝ }
+{
+    match text::field::field_within(s, at, 1, 100) {
+        Field::Bad => Request::Fault { number: 23, place },
+        Field::Good(target, end) => ramp_at(s, place, target as u8, after_comma(s, end)),
+    }
+}
+
 // A request whose address was read, and ends at a place.
 fn at_address(s: &[u8], name: Name, place: Place, end: usize) -> Request
     ensures { λ r. ⌜ r ≡ atAddress (now (s .entry)) name place end ⌝ }
@@ -131,6 +154,11 @@ fn at_address(s: &[u8], name: Name, place: Place, end: usize) -> Request
             Request::Connector(place, Ask::Send { at })
         }
         Name::StopIr => alone(s, end, Request::Connector(place, Ask::Stop)),
+        Name::SetLamp => set_lamp_at(s, place, after_comma(s, end)),
+        Name::GetLamp => {
+            let more = end < s.len();
+            Request::Connector(place, Ask::GetLamp { more })
+        }
     }
 }
 

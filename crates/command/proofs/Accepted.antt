@@ -1,27 +1,17 @@
 -- What is accepted is within document 01's limits.
 use Prim.Native.Nat.{ℕ, _%_, _≤_}
-use mathlib.Core.Path.{_≡_}
 use mathlib.Core.List.{List}
 use native.Mathlib.Omega.{arith}
 use borrow.Author.Tests.{eqb-false}
 use lib.Dec.{eqb}
 use Rattle.laws.proofs.Choice.{cond-case}
 use Rattle.text.specs.declared.field.Field.{Field}
-use Rattle.text.specs.declared.field.Field.the-variants.{Bad, Good}
 use Rattle.text.specs.Field.{afterComma, fieldWithin}
 use Rattle.text.proofs.Limits.{field-case}
 use Rattle.command.specs.declared.fields.FieldsRead.{FieldsRead}
 use Rattle.command.specs.declared.fields.FieldsRead.the-variants.{Fault}
 use Rattle.command.specs.Fields.{need, fieldsAt, ReadWithin}
 use Rattle.command.proofs.Capping.{capped-high, capped-low}
-
--- what a good field has at most
-abbrev AtMost : ℕ → Field → Type 0
-AtMost most Bad = Unit
-AtMost most (Good v end) = v ≤ most
-
-pub good-most : (least most : ℕ) (s : List ℕ) (at : ℕ) {v end : ℕ} → fieldWithin least most s at ≡ Good v end → v ≤ most
-good-most least most s at e = rw e at (field-case (AtMost most) least most s at tt λ v end _ h. h)
 
 -- a field that must be good is within its limits in what follows
 need-within : (least most number : ℕ) (s : List ℕ) (at : ℕ) (go : ℕ → ℕ → FieldsRead)

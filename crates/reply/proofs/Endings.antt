@@ -7,7 +7,7 @@ use Rattle.laws.specs.Bytes.{bytes}
 use Rattle.words.specs.Decimal.{decimal, threeDigits}
 use Rattle.request.specs.Mode.{modeWord}
 use Rattle.reply.specs.declared.Reply.{Reply}
-use Rattle.reply.specs.declared.Reply.the-variants.{Fixed, Error, Mode, State, Complete, Busy, Stopped}
+use Rattle.reply.specs.declared.Reply.the-variants.{Fixed, Error, Mode, State, Complete, Busy, Stopped, Lamp}
 use Rattle.reply.specs.Reply.{addressText, fixedText, replyText, EndsWithCr}
 use Rattle.reply.proofs.Fixed.{fixed-proper}
 
@@ -27,3 +27,5 @@ ends-with-cr (State place state) = behind (addressText (bytes "state,") place) (
 ends-with-cr (Complete place id) = behind (addressText (bytes "completeir,") place) (decimal id)
 ends-with-cr (Busy place id) = behind (addressText (bytes "busyIR,") place) (decimal id)
 ends-with-cr (Stopped place) = record { front = addressText (bytes "stopir,") place; is = refl }
+ends-with-cr (Lamp place level target) =
+    behind (addressText (bytes "LED_LIGHTING,") place) (decimal level ++ bytes "," ++ decimal target)

@@ -11,9 +11,9 @@ use Rattle.request.specs.declared.Place.{Place}
 use Rattle.request.specs.declared.Fixed.the-variants.{Devices}
 use Rattle.request.specs.Mode.{modeWord}
 use Rattle.request.specs.declared.mode.Mode.{Mode as ModeKind}
-use Rattle.request.specs.declared.mode.Mode.the-variants.{Ir, Sensor, IrBlaster}
+use Rattle.request.specs.declared.mode.Mode.the-variants.{Ir, Sensor, IrBlaster, LedLighting}
 use Rattle.reply.specs.declared.Reply.{Reply}
-use Rattle.reply.specs.declared.Reply.the-variants.{Fixed, Error, Mode, State, Complete, Busy, Stopped}
+use Rattle.reply.specs.declared.Reply.the-variants.{Fixed, Error, Mode, State, Complete, Busy, Stopped, Lamp}
 use Rattle.reply.specs.Reply.{addressText, replyText}
 use Rattle.reply.proofs.Fixed.{fixed-proper}
 
@@ -29,11 +29,16 @@ address-fits w place = simp length-append (omega (arith, decimal-most (place .m)
 last-fits : (n : ℕ) → length (bytes "," ++ decimal n ++ bytes "\r") ≤ 22
 last-fits n = simp length-append (omega (arith, decimal-most n))
 
+-- two numbers, each behind a comma, and the CR
+two-fit : (n last : ℕ) → length (bytes "," ++ (decimal n ++ bytes "," ++ decimal last) ++ bytes "\r") ≤ 43
+two-fit n last = simp length-append (omega (arith, decimal-most n, decimal-most last))
+
 -- a comma, a mode and the CR
-mode-fits : (mode : ModeKind) → length (bytes "," ++ modeWord mode ++ bytes "\r") ≤ 12
+mode-fits : (mode : ModeKind) → length (bytes "," ++ modeWord mode ++ bytes "\r") ≤ 14
 mode-fits Ir = omega arith
 mode-fits Sensor = omega arith
 mode-fits IrBlaster = omega arith
+mode-fits LedLighting = omega arith
 
 -- any reply
 pub reply-fits : (r : Reply) → length (replyText r) ≤ 128
@@ -45,3 +50,5 @@ reply-fits (State place state) = rw length-append (omega (arith, address-fits (b
 reply-fits (Complete place id) = rw length-append (omega (arith, address-fits (bytes "completeir,") place, last-fits id))
 reply-fits (Busy place id) = rw length-append (omega (arith, address-fits (bytes "busyIR,") place, last-fits id))
 reply-fits (Stopped place) = rw length-append (omega (arith, address-fits (bytes "stopir,") place))
+reply-fits (Lamp place level target) =
+    rw length-append (omega (arith, address-fits (bytes "LED_LIGHTING,") place, two-fit level target))

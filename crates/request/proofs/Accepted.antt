@@ -15,7 +15,7 @@ use Rattle.text.specs.declared.field.Field.{Field}
 use Rattle.text.specs.Field.{afterComma}
 use Rattle.text.proofs.Limits.{field-case}
 use Rattle.request.specs.declared.Place.{Place}
-use Rattle.request.specs.declared.Ask.the-variants.{SetMode, GetMode, GetContact, Stop}
+use Rattle.request.specs.declared.Ask.the-variants.{SetMode, GetMode, GetContact, Stop, SetLamp}
 use Rattle.request.specs.declared.Turn.the-variants.{Set, Get}
 use Rattle.request.specs.declared.Request.{Request}
 use Rattle.request.specs.declared.Request.the-variants.{Fixed, Connector, Relay}
@@ -27,13 +27,13 @@ use Rattle.request.specs.declared.name.WordRead.the-variants.{Unknown, K
 use Rattle.request.specs.declared.address.Address.{Address}
 use Rattle.request.specs.declared.address.Address.the-variants as address
 use Rattle.request.specs.declared.mode.Mode.{Mode}
-use Rattle.request.specs.declared.mode.Mode.the-variants.{Ir, Sensor, IrBlaster}
+use Rattle.request.specs.declared.mode.Mode.the-variants.{Ir, Sensor, IrBlaster, LedLighting}
 use Rattle.request.specs.declared.mode.ModeRead.{ModeRead}
 use Rattle.request.specs.declared.mode.ModeRead.the-variants as mode
 use Rattle.request.specs.Name.{fixedWord, nameOf, wordAt}
 use Rattle.request.specs.Address.{hasModule, addressAt, addressFault}
 use Rattle.request.specs.Mode.{modeAt, mayHave}
-use Rattle.request.specs.Request.{isPrintable, fault, alone, modeRead, setIrAt, stateRead, setStateAt, getStateAt, atAddress, addressRead, addressed, asked, readRequest}
+use Rattle.request.specs.Request.{isPrintable, fault, alone, modeRead, setIrAt, stateRead, setStateAt, getStateAt, rampRead, rampAt, targetRead, setLampAt, atAddress, addressRead, addressed, asked, readRequest}
 use Rattle.request.specs.Accepted.{ConnectorAt, RelayAt, unaddressed, unnamed, no-mode, no-blaster, no-state, Within}
 
 -- a complete request is within the limits, and so is the fault of what stands behind it
@@ -46,6 +46,7 @@ barred : (port : ℕ) (m : Mode) → mayHave port m ≡ false → port ≡ 3 →
 barred port Ir e is = not-both refl e
 barred port Sensor e is = not-both refl e
 barred port IrBlaster e is = eqb-false port 3 e is
+barred port LedLighting e is = not-both refl e
 
 set-ir-within : (s : List ℕ) (place : Place) (at : ℕ) → ConnectorAt place → Within (setIrAt s place at)
 unfolding setIrAt
@@ -63,6 +64,19 @@ unfolding setStateAt
 set-state-within s place at p =
     field-case (λ (f : Field). Within (stateRead s place f)) 0 1 s at (no-state p)
     (λ state end _ most. alone-within s end (Relay place (Set state)) (p, most))
+
+-- set_LED_LIGHTING: its target is 1 to 100, its ramp 0 to 10
+ramp-within : (s : List ℕ) (place : Place) (target at : ℕ) → ConnectorAt place → 1 ≤ target → target ≤ 100 → Within (rampAt s place target at)
+unfolding rampAt
+ramp-within s place target at p least most =
+    field-case (λ (f : Field). Within (rampRead s place target f)) 0 10 s at (no-mode p)
+    (λ ramp end _ fast. (p, (least, most, fast)))
+
+set-lamp-within : (s : List ℕ) (place : Place) (at : ℕ) → ConnectorAt place → Within (setLampAt s place at)
+unfolding setLampAt
+set-lamp-within s place at p =
+    field-case (λ (f : Field). Within (targetRead s place f)) 1 100 s at (no-mode p)
+    (λ target end least most. ramp-within s place target (afterComma s end) p least most)
 
 -- the module and the port of an address that a request takes
 record Taken (n : Name) (place : Place) : Type 0 where
@@ -115,6 +129,8 @@ at-address-within s name.GetState place end t =
     (λ e. alone-within s end (Relay place Get) (relay t (rw e at (t .has)), tt))
 at-address-within s name.SendIr place end t = (infrared t (t .has), tt)
 at-address-within s name.StopIr place end t = alone-within s end (Connector place Stop) (infrared t (t .has), tt)
+at-address-within s name.SetLamp place end t = set-lamp-within s place (afterComma s end) (infrared t (t .has))
+at-address-within s name.GetLamp place end t = (infrared t (t .has), tt)
 
 -- a request with an address, and any line by its first word
 addressed-within : (s : List ℕ) (n : Name) → Within (addressed s n)

@@ -5,7 +5,7 @@ use mathlib.Core.Bool.{true}
 use lib.Dec.{eqb}
 use Rattle.laws.proofs.Choice.{by-test}
 use Rattle.request.specs.declared.name.Name.{Name}
-use Rattle.request.specs.declared.name.Name.the-variants.{SetIr, GetIr, SetState, GetState, SendIr, StopIr}
+use Rattle.request.specs.declared.name.Name.the-variants.{SetIr, GetIr, SetState, GetState, SendIr, StopIr, SetLamp, GetLamp}
 use Rattle.request.specs.Place.{placeOf}
 use Rattle.request.specs.Address.{beyond, hasModule, addressFault}
 
@@ -18,6 +18,8 @@ long-module-002 SetState port = refl
 long-module-002 GetState port = refl
 long-module-002 SendIr port = refl
 long-module-002 StopIr port = refl
+long-module-002 SetLamp port = refl
+long-module-002 GetLamp port = refl
 
 -- a port
 pub long-port-003 : (n : Name) (m : ℕ) → hasModule n m ≡ true → addressFault n (placeOf m beyond) ≡ 3

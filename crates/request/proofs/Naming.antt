@@ -11,7 +11,7 @@ use lib.ListN.{length, getD}
 use Rattle.laws.proofs.Choice.{by-test, not-both}
 use Rattle.text.specs.Field.{fieldIs}
 use Rattle.request.specs.declared.Fixed.the-variants.{Devices, Version}
-use Rattle.request.specs.declared.name.Name.the-variants.{SetIr, GetIr, SetState, GetState, SendIr, StopIr}
+use Rattle.request.specs.declared.name.Name.the-variants.{SetIr, GetIr, SetState, GetState, SendIr, StopIr, SetLamp, GetLamp}
 use Rattle.request.specs.declared.name.Word.{Word}
 use Rattle.request.specs.declared.name.Word.the-variants.{Alone, Named}
 use Rattle.request.specs.declared.name.WordRead.the-variants.{Unknown, Known}
@@ -35,11 +35,11 @@ abbrev Among : Word → List Word → Type 0
 Among w [] = ⊥
 Among w (v ∷ ws) = (w ≡ v) ⊎ Among w ws
 
--- a word is one of all, and its first and fourth bytes tell it from all others
+-- a word is one of all, and its first, fourth and fifth bytes tell it from all others
 record Told (w : Word) : Type 0 where
   among : Among w words
-  long : 4 ≤ length (wordOf w)
-  is : candidate (getD (wordOf w) 0 0) (getD (wordOf w) 3 0) ≡ w
+  long : 5 ≤ length (wordOf w)
+  is : candidate (getD (wordOf w) 0 0) (getD (wordOf w) 3 0) (getD (wordOf w) 4 0) ≡ w
 
 -- every word is
 told : (w : Word) → Told w
@@ -52,16 +52,18 @@ told (Named SetState) = record { among = inr (inr (inr (inr (inl refl)))); long 
 told (Named GetState) = record { among = inr (inr (inr (inr (inr (inl refl))))); long = omega arith; is = refl }
 told (Named SendIr) = record { among = inr (inr (inr (inr (inr (inr (inl refl)))))); long = omega arith; is = refl }
 told (Named StopIr) = record { among = inr (inr (inr (inr (inr (inr (inr (inl refl))))))); long = omega arith; is = refl }
+told (Named SetLamp) = record { among = inr (inr (inr (inr (inr (inr (inr (inr (inl refl)))))))); long = omega arith; is = refl }
+told (Named GetLamp) = record { among = inr (inr (inr (inr (inr (inr (inr (inr (inr (inl refl))))))))); long = omega arith; is = refl }
 
 module _ (s : List ℕ) where
   abbrev likely : Word
-  likely = candidate (getD s 0 0) (getD s 3 0)
+  likely = candidate (getD s 0 0) (getD s 3 0) (getD s 4 0)
 
   -- no other word than the candidate can be the first field
   only : (w : Word) → fieldIs (wordOf w) s ≡ true → likely ≡ w
   only w e =
       let l = told w .long in
-      rw (begins (wordOf w) s 0 e (omega arith), begins (wordOf w) s 3 e (omega arith)) (told w .is)
+      rw (begins (wordOf w) s 0 e (omega arith), begins (wordOf w) s 3 e (omega arith), begins (wordOf w) s 4 e (omega arith)) (told w .is)
 
   -- so it is found among the words where it is the first field, and nothing is where it is not
   found : (ws : List Word) → fieldIs (wordOf likely) s ≡ true → Among likely ws → wordAmong ws s ≡ Known likely

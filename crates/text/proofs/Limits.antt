@@ -1,5 +1,6 @@
 -- A field that is read within limits.
 use Prim.Native.Nat.{ℕ, _≤_}
+use mathlib.Core.Path.{_≡_}
 use mathlib.Core.List.{List}
 use mathlib.Core.Bool.{not}
 use borrow.Author.Tests.{ltb-false}
@@ -27,3 +28,11 @@ field-case P least most s at bad good = go (numberAt s at)
         cond-case P (ltb v least) Bad _ (λ _. bad) λ l.
         cond-case P (ltb most v) Bad _ (λ _. bad) λ m.
         good v end (ltb-false v least l) (ltb-false most v m)
+
+-- what a good field has at most
+abbrev AtMost : ℕ → Field → Type 0
+AtMost most Bad = Unit
+AtMost most (Good v end) = v ≤ most
+
+pub good-most : (least most : ℕ) (s : List ℕ) (at : ℕ) {v end : ℕ} → fieldWithin least most s at ≡ Good v end → v ≤ most
+good-most least most s at e = rw e at (field-case (AtMost most) least most s at tt λ v end _ h. h)

@@ -86,6 +86,18 @@ slice-aggregate-put-word c = search needs
 put-word-requires : tie.Need-put-word-requires
 put-word-requires c κs = search needs
 
+enum-known-reply-8 : tie.Need-enum-known-reply-8
+enum-known-reply-8 c = search needs
+
+slice-aggregate-put-address-7 : tie.Need-slice-aggregate-put-address-7
+slice-aggregate-put-address-7 c = search needs
+
+put-address-requires-7 : tie.Need-put-address-requires-7
+put-address-requires-7 c κs = search needs
+
+put-two-requires : tie.Need-put-two-requires
+put-two-requires c κs = search needs
+
 same-length : tie.Need-same-length
 same-length c = search needs
 
@@ -153,6 +165,16 @@ returns-7 c =
     let reply7 = put-address6 .before .before .before .before in
     rw (reply7 .reply7 .given .1) (then (put-address6 .put-address6 .ensures .0) (c .before .before .put-word .ensures))
 
+same-length-8 : tie.Need-same-length-8
+same-length-8 c = search needs
+
+returns-8 : tie.Need-returns-8
+unfolding replyText
+returns-8 c =
+    let put-address7 = c .before .before .before .before .before .before in
+    let reply8 = put-address7 .before .before .before .before in
+    rw (reply8 .reply8 .given .1) (then (put-address7 .put-address7 .ensures .0) (c .before .before .put-two .ensures))
+
 pub put-reply-spec : {M : Type 1} → statement M
 put-reply-spec =
     tie.close
@@ -184,6 +206,10 @@ put-reply-spec =
     put-address-requires-6
     slice-aggregate-put-word
     put-word-requires
+    enum-known-reply-8
+    slice-aggregate-put-address-7
+    put-address-requires-7
+    put-two-requires
     same-length
     returns
     same-length-2
@@ -197,4 +223,6 @@ put-reply-spec =
     same-length-6
     returns-6
     same-length-7
-    returns-7)
+    returns-7
+    same-length-8
+    returns-8)

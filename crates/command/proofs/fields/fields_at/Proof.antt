@@ -3,9 +3,9 @@ use mathlib.Core.Path.{_≡_, sym, _∙_}
 use denote.Ref.{now}
 use native.Mathlib.Omega.{arith}
 use borrow.Author.Tests.{eq-eqb, ne-eqb}
+use Rattle.text.proofs.Limits.{good-most}
 use Rattle.command.specs.Fields.{fieldsAt}
 use Rattle.command.proofs.Capping.{capped-high}
-use Rattle.command.proofs.Accepted.{good-most}
 use Rattle.command.proofs.Sending.{freqAt, repeatAt, offsetAt}
 use borrow.Author.Needs.{needs}
 use Rattle.command.proofs.fields.fields_at.Statement.{statement}

@@ -57,6 +57,24 @@ slice-aggregate-field-is-6 c = search needs
 field-is-requires-6 : tie.Need-field-is-requires-6
 field-is-requires-6 c κs = search needs
 
+enum-told-7 : tie.Need-enum-told-7
+enum-told-7 c = search needs
+
+slice-aggregate-field-is-7 : tie.Need-slice-aggregate-field-is-7
+slice-aggregate-field-is-7 c = search needs
+
+field-is-requires-7 : tie.Need-field-is-requires-7
+field-is-requires-7 c κs = search needs
+
+enum-told-8 : tie.Need-enum-told-8
+enum-told-8 c = search needs
+
+slice-aggregate-field-is-8 : tie.Need-slice-aggregate-field-is-8
+slice-aggregate-field-is-8 c = search needs
+
+field-is-requires-8 : tie.Need-field-is-requires-8
+field-is-requires-8 c κs = search needs
+
 returns : tie.Need-returns
 returns c = rw (c .before .before .enum-told .given .1) (c .field-is .ensures)
 
@@ -74,6 +92,12 @@ returns-5 c = rw (c .before .before .enum-told5 .given .1) (c .field-is5 .ensure
 
 returns-6 : tie.Need-returns-6
 returns-6 c = rw (c .before .before .enum-told6 .given .1) (c .field-is6 .ensures)
+
+returns-7 : tie.Need-returns-7
+returns-7 c = rw (c .before .before .enum-told7 .given .1) (c .field-is7 .ensures)
+
+returns-8 : tie.Need-returns-8
+returns-8 c = rw (c .before .before .enum-told8 .given .1) (c .field-is8 .ensures)
 
 pub is-name-spec : {M : Type 1} → statement M
 is-name-spec =
@@ -97,9 +121,17 @@ is-name-spec =
     enum-told-6
     slice-aggregate-field-is-6
     field-is-requires-6
+    enum-told-7
+    slice-aggregate-field-is-7
+    field-is-requires-7
+    enum-told-8
+    slice-aggregate-field-is-8
+    field-is-requires-8
     returns
     returns-2
     returns-3
     returns-4
     returns-5
-    returns-6)
+    returns-6
+    returns-7
+    returns-8)

@@ -9,15 +9,18 @@ use Rattle.request.proofs.name.word_at.Statement.{statement}
 use Rattle.request.proofs.name.word_at.Tie as tie
 
 -- the word that is tried is the candidate
-tried : (c : tie.After-candidate) → let s = now (c .before .before .before .before .args .s) in
-    c .candidate .result ≡ candidate (getD s 0 0) (getD s 3 0)
-tried c = rw (← c .before .before .byte-at .ensures, ← c .before .byte-at2 .ensures) (c .candidate .ensures)
+tried : (c : tie.After-candidate) → let s = now (c .before .before .before .before .before .args .s) in
+    c .candidate .result ≡ candidate (getD s 0 0) (getD s 3 0) (getD s 4 0)
+tried c = rw (← c .before .before .before .byte-at .ensures, ← c .before .before .byte-at2 .ensures, ← c .before .byte-at3 .ensures) (c .candidate .ensures)
 
 byte-at-requires : tie.Need-byte-at-requires
 byte-at-requires c κs = search needs
 
 byte-at-requires-2 : tie.Need-byte-at-requires-2
 byte-at-requires-2 c κs = search needs
+
+byte-at-requires-3 : tie.Need-byte-at-requires-3
+byte-at-requires-3 c κs = search needs
 
 candidate-requires : tie.Need-candidate-requires
 candidate-requires c κs = search needs
@@ -37,6 +40,7 @@ word-at-spec =
     (tie.spec
     byte-at-requires
     byte-at-requires-2
+    byte-at-requires-3
     candidate-requires
     is-word-requires
     returns

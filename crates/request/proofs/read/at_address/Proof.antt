@@ -45,6 +45,18 @@ enum-told-6 c = search needs
 alone-requires-2 : tie.Need-alone-requires-2
 alone-requires-2 c κs = search needs
 
+enum-told-7 : tie.Need-enum-told-7
+enum-told-7 c = search needs
+
+after-comma-requires-4 : tie.Need-after-comma-requires-4
+after-comma-requires-4 c κs = search needs
+
+set-lamp-at-requires : tie.Need-set-lamp-at-requires
+set-lamp-at-requires c κs = search needs
+
+enum-told-8 : tie.Need-enum-told-8
+enum-told-8 c = search needs
+
 returns : tie.Need-returns
 returns c = rw (c .before .before .enum-told .given .1, ← (c .before .after-comma .ensures)) (c .set-ir-at .ensures)
 
@@ -62,6 +74,12 @@ returns-5 c = rw (c .before .enum-told5 .given .1, ← (c .after-comma3 .ensures
 
 returns-6 : tie.Need-returns-6
 returns-6 c = rw (c .before .enum-told6 .given .1) (c .alone2 .ensures)
+
+returns-7 : tie.Need-returns-7
+returns-7 c = rw (c .before .before .enum-told7 .given .1, ← (c .before .after-comma4 .ensures)) (c .set-lamp-at .ensures)
+
+returns-8 : tie.Need-returns-8
+returns-8 c = rw (c .enum-told8 .given .1)
 
 pub at-address-spec : {M : Type 1} → statement M
 at-address-spec =
@@ -81,9 +99,15 @@ at-address-spec =
     after-comma-requires-3
     enum-told-6
     alone-requires-2
+    enum-told-7
+    after-comma-requires-4
+    set-lamp-at-requires
+    enum-told-8
     returns
     returns-2
     returns-3
     returns-4
     returns-5
-    returns-6)
+    returns-6
+    returns-7
+    returns-8)

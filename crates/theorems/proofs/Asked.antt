@@ -21,7 +21,7 @@ use Rattle.meaning.specs.Line as text
 use Rattle.meaning.specs.Line.{is}
 use Rattle.meaning.specs.Log.{Deed, contactOf}
 use Rattle.meaning.specs.Table as table
-use Rattle.meaning.specs.Table.{refused, taken, replied, Judged, refusal, error, does, Row, row, no, line, answerOf, judge, getdevices, getversion, set-IR, get-IR, setstate, getstate, sendir, stopir, request}
+use Rattle.meaning.specs.Table.{refused, taken, replied, Judged, refusal, error, does, Row, row, no, line, answerOf, judge, getdevices, getversion, set-IR, get-IR, setstate, getstate, sendir, stopir, set-LED-LIGHTING, get-LED-LIGHTING, request}
 use Rattle.theorems.specs.Deeds.{Port}
 use Rattle.theorems.specs.Contacts.{AsksState}
 use Rattle.theorems.proofs.Deeds.{within-is}
@@ -138,7 +138,7 @@ module _ (log : List Deed) (p v : ℕ) (told : Option ℕ) (port : Port connecto
         record { asks = asked-so address module-taken port-taken ends contact }))))))))
 
   call-asks : Asks (judge log (line connection room s))
-  unfolding request set-IR get-IR setstate sendir stopir decimal
+  unfolding request set-IR get-IR setstate sendir stopir set-LED-LIGHTING get-LED-LIGHTING decimal
   call-asks =
       cond-case Asks (ltb 7 connection) _ _ (λ _. asks-other _ refl) λ a.
       cond-case Asks (ltb room 128) _ _ (λ _. asks-other _ refl) λ b.
@@ -155,7 +155,9 @@ module _ (log : List Deed) (p v : ℕ) (told : Option ℕ) (port : Port connecto
       getstate-asks (ltb-false 7 connection a) (ltb-false room 128 b) (ltb-false 4096 (length s) c) (not-false _ d)
       (sym (same-is (bytes "getstate") name e))) λ _.
       cond-case RowAsks (is "sendir" name) _ _ (λ _. asks-other-row (sendir log connection s) refl) λ _.
-      cond-case RowAsks (is "stopir" name) _ _ (λ _. asks-other-row (stopir log connection s) refl)
+      cond-case RowAsks (is "stopir" name) _ _ (λ _. asks-other-row (stopir log connection s) refl) λ _.
+      cond-case RowAsks (is "set_LED_LIGHTING" name) _ _ (λ _. asks-other-row (set-LED-LIGHTING log connection s) refl) λ _.
+      cond-case RowAsks (is "get_LED_LIGHTING" name) _ _ (λ _. asks-other-row (get-LED-LIGHTING log connection s) refl)
       (λ _. asks-other-row (row [] (no 1)) refl)
 
   -- a line that is answered so is a getstate of that contact

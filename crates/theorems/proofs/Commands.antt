@@ -1,7 +1,7 @@
 -- Commands to a connector, over any log: each sentence of document 01's "Time on a connector" on commands is one theorem.
 use Prim.Native.Nat.{ℕ, _≤_}
 use mathlib.Core.Path.{_≡_, refl, sym, ap, _∙_}
-use mathlib.Core.Bool.{true, false, _&&_}
+use mathlib.Core.Bool.{true, false, _&&_, or-true}
 use mathlib.Core.List.{List, [], _∷_, _++_}
 use mathlib.Core.Option.{Option, none, some}
 use lib.Dec.{eqb}
@@ -16,14 +16,14 @@ use Rattle.words.specs.declared.Pair.{Pair}
 use Rattle.words.specs.declared.Fields.{Fields}
 use Rattle.words.specs.Digits.{Spells}
 use Rattle.meaning.specs.Line as text
-use Rattle.meaning.specs.Line.{is, addressed}
+use Rattle.meaning.specs.Line.{addressed}
 use Rattle.words.specs.Pairs.{countsOf}
 use Rattle.meaning.specs.Time.{Transmission}
 use Rattle.meaning.specs.Time as time
 use Rattle.meaning.specs.Log.{Deed, setting, event, changed, renewed, halted, modeOf, contactOf, lastOf, ownerOf, onAir}
 use Rattle.meaning.specs.Table.{Call, line, Judged, error, does, taken, replied, deedsOf, reply, answerOf, isSame, judge, logged}
 use Rattle.theorems.proofs.Times.{on-air-is}
-use Rattle.theorems.specs.Deeds.{ModeWord}
+use Rattle.theorems.specs.Deeds.{ModeWord, inSensor, inLighting, silent}
 use Rattle.theorems.specs.Spelled.{settingText, fields, at, Heard, IsSendir, modeSet, starts, commanded, toldOf, stopped}
 use Rattle.theorems.specs.Commands.{Starts, Renews, Busy, Tells, another, idle, ownerless, itself, Stops}
 use Rattle.theorems.proofs.Spelled.{sendir-judged, set-IR-spelled, stopir-spelled}
@@ -92,16 +92,16 @@ module _ (log : List Deed) (call : Call) (connection p : ℕ) (f : Fields) (ps :
 busy-so : (log : List Deed) (call : Call) (p id : ℕ) → judge log call ≡ reply (text.line "busyIR," 1 p (decimal id)) [] → Busy log call p id
 busy-so log call p id j = record { judged = j; unchanged = ap (λ (x : Judged). deedsOf x ++ log) j }
 
--- ---- a sendir without a fault, to a connector that is not in SENSOR
+-- ---- a sendir without a fault, to a connector that is not silent
 module _ (log : List Deed) (connection room : ℕ) (s : List ℕ) (p : ℕ) (f : Fields) (ps : List Pair) (h : Heard connection room)
-    (x : IsSendir s p f ps) (mode : is "SENSOR" (modeOf p log) ≡ false) where
+    (x : IsSendir s p f ps) (mode : silent p log ≡ false) where
   judged : judge log (line connection room s) ≡ commanded log connection p f ps
   judged = sendir-judged log connection room s p f ps h x
 
   -- "sendir to an idle connector starts with the sender as owner."
   pub idle-starts : onAir p log ≡ none → Starts log (line connection room s) connection p f ps
-  idle-starts silent =
-      let c : commanded log connection p f ps ≡ starts connection p f ps = rw (mode, silent) in
+  idle-starts off =
+      let c : commanded log connection p f ps ≡ starts connection p f ps = rw (mode, off) in
       started-so log (line connection room s) connection p f ps (judged ∙ c)
 
   module _ (t : Transmission) (air : onAir p log ≡ some t) where
@@ -133,12 +133,20 @@ module _ (log : List Deed) (connection room : ℕ) (s : List ℕ) (p : ℕ) (f :
         let c : commanded log connection p f ps ≡ reply (text.line "busyIR," 1 p (decimal (f .id))) [] = rw (mode, air, o) in
         busy-so log (line connection room s) p (f .id) (judged ∙ c)
 
--- "sendir .. to a connector in SENSOR": 013
-pub sensor-refuses : (log : List Deed) (connection room : ℕ) (s : List ℕ) (p : ℕ) (f : Fields) (ps : List Pair) → Heard connection room
-    → IsSendir s p f ps → is "SENSOR" (modeOf p log) ≡ true → judge log (line connection room s) ≡ error 13 1 p
-sensor-refuses log connection room s p f ps h x mode =
+-- "sendir .. to a connector in SENSOR": 013, and by request 3 of document 02 "sendir and stopir there get 013"
+pub silent-refuses : (log : List Deed) (connection room : ℕ) (s : List ℕ) (p : ℕ) (f : Fields) (ps : List Pair) → Heard connection room
+    → IsSendir s p f ps → silent p log ≡ true → judge log (line connection room s) ≡ error 13 1 p
+silent-refuses log connection room s p f ps h x mode =
     let c : commanded log connection p f ps ≡ error 13 1 p = rw mode in
     sendir-judged log connection room s p f ps h x ∙ c
+
+pub sensor-refuses : (log : List Deed) (connection room : ℕ) (s : List ℕ) (p : ℕ) (f : Fields) (ps : List Pair) → Heard connection room
+    → IsSendir s p f ps → inSensor p log ≡ true → judge log (line connection room s) ≡ error 13 1 p
+sensor-refuses log connection room s p f ps h x mode = silent-refuses log connection room s p f ps h x (rw mode)
+
+pub lamp-refuses : (log : List Deed) (connection room : ℕ) (s : List ℕ) (p : ℕ) (f : Fields) (ps : List Pair) → Heard connection room
+    → IsSendir s p f ps → inLighting p log ≡ true → judge log (line connection room s) ≡ error 13 1 p
+lamp-refuses log connection room s p f ps h x mode = silent-refuses log connection room s p f ps h x (rw (mode, or-true (inSensor p log)))
 
 -- ---- stopir
 module _ (log : List Deed) (connection p : ℕ) where
@@ -150,9 +158,9 @@ module _ (log : List Deed) (connection p : ℕ) where
       (λ g. rw (f, e, g) (itself (e ∙ ap some (eqb-true other connection g))))
       (λ g. rw (f, e, g) (another f e (eqb-false other connection g)))
 
--- "stopir .. 013": not in SENSOR it is always done
+-- "stopir .. 013": to a connector that is not silent it is always done
 pub stop-tells : (log : List Deed) (connection room : ℕ) {dm dp : List ℕ} {p : ℕ} → Heard connection room → Spells dm 1 → Spells dp p
-    → 1 ≤ p → p ≤ connectors → is "SENSOR" (modeOf p log) ≡ false
+    → 1 ≤ p → p ≤ connectors → silent p log ≡ false
     → Stops log (line connection room (fields (bytes "stopir" ∷ at dm dp ∷ []))) connection p
 unfolding onAir
 stop-tells log connection room {dm} {dp} {p} h one port least most mode =
@@ -167,6 +175,14 @@ stop-tells log connection room {dm} {dp} {p} h one port least most mode =
       owned = ap (λ (x : Judged). ownerOf p (deedsOf x ++ log)) j ∙ rw (eq-eqb p p refl);
     }
 
+-- "sendir and stopir there get 013"
+pub silent-stop-refused : (log : List Deed) (connection room : ℕ) {dm dp : List ℕ} {p : ℕ} → Heard connection room → Spells dm 1 → Spells dp p
+    → 1 ≤ p → p ≤ connectors → silent p log ≡ true
+    → judge log (line connection room (fields (bytes "stopir" ∷ at dm dp ∷ []))) ≡ error 13 1 p
+silent-stop-refused log connection room {p = p} h one port least most mode =
+    let c : stopped log connection p ≡ error 13 1 p = rw mode in
+    stopir-spelled log connection room h port least most one ∙ c
+
 -- ---- set_IR
 module _ (log : List Deed) (connection room : ℕ) {dm dp mode : List ℕ} {p : ℕ} (h : Heard connection room) (one : Spells dm 1)
     (port : Spells dp p) (least : 1 ≤ p) (most : p ≤ connectors) (word : ModeWord p mode) where
@@ -179,17 +195,17 @@ module _ (log : List Deed) (connection room : ℕ) {dm dp mode : List ℕ} {p : 
 
   -- "the present mode again changes nothing"
   pub mode-again : onAir p log ≡ none → modeOf p log ≡ mode → judge log (line connection room (settingText dm dp mode)) ≡ reply (text.line "IR," 1 p mode) []
-  mode-again silent present =
-      let c : modeSet log p mode ≡ reply (text.line "IR," 1 p mode) [] = rw (silent, present, same-self mode) in
+  mode-again off present =
+      let c : modeSet log p mode ≡ reply (text.line "IR," 1 p mode) [] = rw (off, present, same-self mode) in
       set-judged ∙ c
 
   -- "a change of mode makes the contact unread"
   pub mode-unread : onAir p log ≡ none → (modeOf p log ≡ mode → ⊥)
       → (modeOf p (logged log (line connection room (settingText dm dp mode))) ≡ mode) × (contactOf p (logged log (line connection room (settingText dm dp mode))) ≡ none)
-  mode-unread silent differs =
+  mode-unread off differs =
       let other : same (modeOf p log) mode ≡ false =
       by-test (same (modeOf p log) mode) (λ e. absurd (differs (same-is (modeOf p log) mode e))) (λ e. e) in
-      let c : modeSet log p mode ≡ reply (text.line "IR," 1 p mode) (setting p (changed mode) ∷ []) = rw (silent, other) in
+      let c : modeSet log p mode ≡ reply (text.line "IR," 1 p mode) (setting p (changed mode) ∷ []) = rw (off, other) in
       let j = set-judged ∙ c in (
         ap (λ (x : Judged). modeOf p (deedsOf x ++ log)) j ∙ rw (eq-eqb p p refl),
         ap (λ (x : Judged). contactOf p (deedsOf x ++ log)) j ∙ rw (eq-eqb p p refl),

@@ -18,8 +18,8 @@ use Rattle.text.proofs.Decimals.{decimal-small}
 use Rattle.meaning.specs.Line as text
 use Rattle.meaning.specs.Time.{Transmission, complete, finish}
 use Rattle.meaning.specs.Log.{Deed, passed, setting, switched, event, started, renewed, halted, left, now, lastOf, ownerOf, onAir}
-use Rattle.meaning.specs.Table.{Completion, refused, taken, replied, Judged, refusal, error, does, Row, no, Call, line, overlong, reading, closing, waiting, answerOf, deedsOf, judge, logged, logOf, rowOf, dueOf, due, inserted, ordered, completions, set-IR, get-IR, setstate, getstate, sendir, stopir, request}
-use Rattle.theorems.specs.Deeds.{Port, Did, nothing, changes, reads, switches, starts, renews, halts, leaves, passes}
+use Rattle.meaning.specs.Table.{Completion, refused, taken, replied, Judged, refusal, error, does, Row, no, Call, line, overlong, reading, closing, waiting, answerOf, deedsOf, judge, logged, logOf, rowOf, dueOf, due, inserted, ordered, completions, set-IR, get-IR, setstate, getstate, sendir, stopir, set-LED-LIGHTING, get-LED-LIGHTING, request}
+use Rattle.theorems.specs.Deeds.{Port, Did, nothing, changes, reads, lights, switches, starts, renews, halts, leaves, passes}
 use Rattle.theorems.specs.Notices.{Notice, noticeOf, isFor, noticesIn, noticesOf, notices, loggedAll, touches, startsOn, LeftAlone, Unstarted}
 use Rattle.theorems.proofs.Rows.{by-rows}
 use Rattle.theorems.proofs.Deeds.{did}
@@ -40,8 +40,8 @@ abbrev plainRow : Row → Bool
 plainRow r = all (λ k. plain (k .gives)) (r .checks) && plain (r .otherwise)
 
 request-plain : (log : List Deed) (connection : ℕ) (s : List ℕ) → plainRow (request log connection s) ≡ true
-unfolding set-IR get-IR setstate getstate sendir stopir
-request-plain log connection s = by-rows log connection s (λ r. plainRow r ≡ true) (λ _ _. refl) refl refl refl refl refl refl refl
+unfolding set-IR get-IR setstate getstate sendir stopir set-LED-LIGHTING get-LED-LIGHTING
+request-plain log connection s = by-rows log connection s (λ r. plainRow r ≡ true) (λ _ _. refl) refl refl refl refl refl refl refl refl refl
 
 plain-tells : (p t : ℕ) (j : Judged) → plain j ≡ true → noticesOf p t (answerOf j) ≡ []
 plain-tells p t (refusal n) e = refl
@@ -157,6 +157,7 @@ did-now : (log : List Deed) (call : Call) → ((n : ℕ) → call ≡ waiting n 
 did-now log call w ds nothing = refl
 did-now log call w ds (changes r c word _ _ _ _ _) = refl
 did-now log call w ds (reads r v _ _ _ _) = refl
+did-now log call w ds (lights r c target ramp _ _ _ _ _ _) = refl
 did-now log call w ds (switches r c v _ _ _) = refl
 did-now log call w ds (starts r c f ps _ _ _ _ _) = refl
 did-now log call w ds (renews r c s _ _ _ _ _) = refl
@@ -264,6 +265,7 @@ unfolding onAir
 silent-on h p call ds nothing e a = e
 silent-on h p call ds (changes r c word _ _ _ _ _) e a = e
 silent-on h p call ds (reads r v _ _ _ _) e a = e
+silent-on h p call ds (lights r c target ramp _ _ _ _ _ _) e a = e
 silent-on h p call ds (switches r c v _ _ _) e a = e
 silent-on h p call ds (starts r c f ps _ _ _ _ _) e a = rw (not-true (eqb r p) (and-left (not (eqb r p)) true a)) e
 silent-on h p call ds (renews r c s _ _ _ air _) e a =

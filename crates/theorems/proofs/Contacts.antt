@@ -17,10 +17,10 @@ use Rattle.laws.proofs.Lists.{all-append}
 use Rattle.words.specs.Decimal.{decimal}
 use Rattle.words.specs.Places.{connectors, relays}
 use Rattle.meaning.specs.Line as text
-use Rattle.meaning.specs.Log.{Deed, passed, setting, switched, event, changed, felt, modeOf, contactOf, relayOf}
+use Rattle.meaning.specs.Log.{Deed, passed, setting, switched, event, changed, felt, lit, modeOf, contactOf, relayOf}
 use Rattle.meaning.specs.Table as table
-use Rattle.meaning.specs.Table.{taken, replied, Judged, error, Row, row, no, reply, Call, line, overlong, reading, closing, waiting, answerOf, deedsOf, rowOf, judge, logged, logOf, field, fixed, set-IR, get-IR, setstate, getstate, sendir, stopir, request}
-use Rattle.theorems.specs.Deeds.{Port, inSensor, Did, nothing, changes, reads, switches, starts, renews, halts, leaves, passes}
+use Rattle.meaning.specs.Table.{taken, replied, Judged, error, Row, row, no, reply, Call, line, overlong, reading, closing, waiting, answerOf, deedsOf, rowOf, judge, logged, logOf, field, fixed, set-IR, get-IR, setstate, getstate, sendir, stopir, set-LED-LIGHTING, get-LED-LIGHTING, request}
+use Rattle.theorems.specs.Deeds.{Port, inSensor, Did, nothing, changes, reads, lights, switches, starts, renews, halts, leaves, passes}
 use Rattle.theorems.specs.Contacts.{AsksState, isSetting, LastFelt, LastReading, isSwitching, LastSwitched, never, last}
 use Rattle.theorems.proofs.Rows.{by-rows, by-line}
 use Rattle.theorems.proofs.Asked.{state-text, other, others, otherRow, port-digit, state-is-asked-for}
@@ -160,7 +160,7 @@ module _ (log : List Deed) (p v : ℕ) (told : Option ℕ) (port : Port relays p
         }))))))
 
     request-relay : RowRelay (request log connection s)
-    unfolding set-IR get-IR sendir stopir decimal
+    unfolding set-IR get-IR sendir stopir set-LED-LIGHTING get-LED-LIGHTING decimal
     request-relay =
         by-rows log connection s RowRelay
         (λ words apart. no-relay-row (fixed log connection s words) (rw (apart .relay)))
@@ -170,6 +170,8 @@ module _ (log : List Deed) (p v : ℕ) (told : Option ℕ) (port : Port relays p
         getstate-relay
         (no-relay-row (sendir log connection s) refl)
         (no-relay-row (stopir log connection s) refl)
+        (no-relay-row (set-LED-LIGHTING log connection s) refl)
+        (no-relay-row (get-LED-LIGHTING log connection s) refl)
         (no-relay-row (row [] (no 1)) refl)
 
   call-relay : (call : Call) → FromRelay (judge log call)
@@ -206,6 +208,7 @@ module _ (p v : ℕ) where
       let k : u ≡ v = cc in
       record { later = []; earlier = log; splits = rw (g, k); quiet = refl })
       (λ t. felt-later _ t (contact-is-last-felt log (rw t at e)))
+  contact-is-last-felt (setting q (lit target ramp) ∷ log) e = felt-later _ refl (contact-is-last-felt log e)
   contact-is-last-felt (switched q state ∷ log) e = felt-later _ refl (contact-is-last-felt log e)
   contact-is-last-felt (event x ∷ log) e = felt-later _ refl (contact-is-last-felt log e)
 
@@ -216,6 +219,7 @@ module _ (p v : ℕ) where
       rw (not-true (eqb q p) (and-left _ _ a)) (quiet-keeps ds log (and-right (not (eqb q p)) _ a))
   quiet-keeps (setting q (felt u) ∷ ds) log a =
       rw (not-true (eqb q p) (and-left _ _ a)) (quiet-keeps ds log (and-right (not (eqb q p)) _ a))
+  quiet-keeps (setting q (lit target ramp) ∷ ds) log a = quiet-keeps ds log a
   quiet-keeps (switched q state ∷ ds) log a = quiet-keeps ds log a
   quiet-keeps (event x ∷ ds) log a = quiet-keeps ds log a
 
@@ -268,6 +272,7 @@ module _ (p v : ℕ) where
             quiet = refl;
           })
           (λ t. read-later call ds (rw q) (rw t) (ih (rw t at e)))
+      go ds q (lights r c target ramp _ _ _ _ _ _) e ih = read-later call ds (rw q) refl (ih e)
       go ds q (switches r c u _ _ _) e ih = read-later call ds (rw q) refl (ih e)
       go ds q (starts r c f ps _ _ _ _ _) e ih = read-later call ds (rw q) refl (ih e)
       go ds q (renews r c s _ _ _ _ _) e ih = read-later call ds (rw q) refl (ih e)
@@ -317,6 +322,7 @@ change-unread log call p differs = go (deedsOf (judge log call)) (did log call) 
     go ds nothing d = absurd (d refl)
     go ds (changes q _ word _ _ _ _ _) d = by-test (eqb q p) (λ t. rw t) (λ t. absurd (d (rw t)))
     go ds (reads q v _ _ _ _) d = absurd (d refl)
+    go ds (lights q _ target ramp _ _ _ _ _ _) d = absurd (d refl)
     go ds (switches q _ state _ _ _) d = absurd (d refl)
     go ds (starts q _ f ps _ _ _ _ _) d = absurd (d refl)
     go ds (renews q _ s _ _ _ _ _) d = absurd (d refl)

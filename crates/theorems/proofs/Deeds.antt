@@ -8,20 +8,20 @@ use mathlib.Core.Option.{Option, none, some}
 use native.Mathlib.Omega.{arith}
 use borrow.Author.Tests.{ltb-true, ltb-false, leb-true, eqb-true, eqb-false, not-true, not-false}
 use lib.Dec.{ltb, leb, eqb}
-use lib.ListN.{length}
 use Rattle.laws.specs.Checks.{first, between}
 use Rattle.laws.specs.Lists.{same, part, behind}
 use Rattle.laws.proofs.Choice.{cond-case, not-both, and-left, and-right}
 use Rattle.laws.proofs.Checks.{Through, through, past, none-of, some-of}
 use Rattle.laws.proofs.Lists.{same-is, same-self}
 use Rattle.words.specs.Places.{connectors, portsOf}
-use Rattle.meaning.specs.Line.{is, isNumber, number, within, codeIn}
+use Rattle.meaning.specs.Line.{is, number, within, codeIn}
 use Rattle.meaning.specs.Log.{Deed, isOwner, ownerOf, onAir, modeOf}
-use Rattle.meaning.specs.Table.{Judged, Row, Call, line, overlong, reading, closing, waiting, deedsOf, judge, set-IR, get-IR, setstate, getstate, sendir, stopir, request, field, rowOf}
+use Rattle.meaning.specs.Table.{Judged, Row, Call, line, overlong, reading, closing, waiting, deedsOf, judge, set-IR, get-IR, setstate, getstate, sendir, stopir, set-LED-LIGHTING, get-LED-LIGHTING, request, field, rowOf}
 use Rattle.meaning.specs.Table as table
 use Rattle.theorems.proofs.Codes.{code-pairs}
 use Rattle.theorems.proofs.Rows.{by-rows, by-line}
-use Rattle.theorems.specs.Deeds.{Port, LineOf, ModeWord, ir, sensor, blaster, Limits, Did, nothing, changes, reads, switches, starts, renews, halts, leaves, passes}
+use Rattle.theorems.proofs.Occasions.{within-between}
+use Rattle.theorems.specs.Deeds.{Port, LineOf, ModeWord, ir, sensor, blaster, lighting, Limits, inLighting, Did, nothing, changes, reads, lights, switches, starts, renews, halts, leaves, passes}
 
 -- ---- what a test tells
 
@@ -30,10 +30,7 @@ between-is least most n e =
     (leb-true least n (and-left (leb least n) (leb n most) e), leb-true n most (and-right (leb least n) (leb n most) e))
 
 pub within-is : (least most : ℕ) (f : List ℕ) → not (within least most f) ≡ false → (least ≤ number f) × (number f ≤ most)
-unfolding within
-within-is least most f e =
-    between-is least most (number f)
-    (and-right (isNumber f && leb (length f) 6) (between least most (number f)) (not-false (within least most f) e))
+within-is least most f e = between-is least most (number f) (within-between least most f (not-false (within least most f) e))
 
 pub owner-is : (connection : ℕ) (owner : Option ℕ) → isOwner connection owner ≡ true → owner ≡ some connection
 owner-is connection none e = not-both e refl
@@ -54,12 +51,14 @@ or-right false b e = e
 is-odd : (n : ℕ) → eqb (n % 2) 0 ≡ false → n % 2 ≡ 1
 is-odd n e = let h = eqb-false (n % 2) 0 e in omega arith
 
-pub mode-of : (p : ℕ) (word : List ℕ) → not (is "IR" word || is "SENSOR" word || is "IR_BLASTER" word) ≡ false
+pub mode-of : (p : ℕ) (word : List ℕ) → not (is "IR" word || is "SENSOR" word || is "IR_BLASTER" word || is "LED_LIGHTING" word) ≡ false
     → (is "IR_BLASTER" word && not (eqb p 3)) ≡ false → ModeWord p word
 mode-of p word e f =
-    or-cases (is "IR" word || is "SENSOR" word) (is "IR_BLASTER" word) (not-false _ e)
-    (λ a. or-cases (is "IR" word) (is "SENSOR" word) a (λ b. ir (sym (same-is _ word b))) (λ b. sensor (sym (same-is _ word b))))
-    (λ a. blaster (sym (same-is _ word a)) (eqb-true p 3 (not-false (eqb p 3) (rw a at f))))
+    or-cases (is "IR" word || is "SENSOR" word || is "IR_BLASTER" word) (is "LED_LIGHTING" word) (not-false _ e)
+    (λ a. or-cases (is "IR" word || is "SENSOR" word) (is "IR_BLASTER" word) a
+    (λ b. or-cases (is "IR" word) (is "SENSOR" word) b (λ c. ir (sym (same-is _ word c))) (λ c. sensor (sym (same-is _ word c))))
+    (λ b. blaster (sym (same-is _ word b)) (eqb-true p 3 (not-false (eqb p 3) (rw b at f)))))
+    (λ a. lighting (sym (same-is _ word a)))
 
 -- ---- the rows
 
@@ -160,8 +159,20 @@ module _ (log : List Deed) (connection room : ℕ) (text : List ℕ) (c : connec
       capped-most : (n : ℕ) → cond (ltb 20 n) 20 n ≤ 20
       capped-most n = cond-case (λ (k : ℕ). k ≤ 20) (ltb 20 n) 20 n (λ _. omega arith) (λ e. ltb-false 20 n e)
 
+  set-LED-LIGHTING-did : Meets log asks (set-LED-LIGHTING log connection text)
+  unfolding set-LED-LIGHTING
+  set-LED-LIGHTING-did =
+      past nothing (λ _. past nothing (λ only. past nothing (λ port. past nothing (λ e. past nothing (λ _.
+      let target = within 1 100 (field log connection text 2) in
+      let ramp = within 0 10 (field log connection text 3) in
+      let both = not-false _ e in
+      let front = and-left (target && ramp) (inLighting p log) both in
+      let range = between-is 1 100 _ (within-between 1 100 (field log connection text 2) (and-left target ramp front)) in
+      lights p connection _ _ asked (port-of 1 only port) (and-right (target && ramp) (inLighting p log) both) (range .0) (range .1)
+      (between-is 0 10 _ (within-between 0 10 (field log connection text 3) (and-right target ramp front)) .1))))))
+
   request-did : Meets log asks (request log connection text)
-  unfolding get-IR
+  unfolding get-IR get-LED-LIGHTING
   request-did =
       by-rows log connection text (Meets log asks)
       (λ _ _. past nothing (λ _. nothing))
@@ -171,6 +182,8 @@ module _ (log : List Deed) (connection room : ℕ) (text : List ℕ) (c : connec
       getstate-did
       sendir-did
       stopir-did
+      set-LED-LIGHTING-did
+      (past nothing (λ _. past nothing (λ _. past nothing (λ _. past nothing (λ _. past nothing (λ _. nothing))))))
       nothing
 
 -- a call over any log did nothing, or one of the deeds that `Did` lists

@@ -17,8 +17,9 @@ use Rattle.laws.proofs.Checks.{first-all}
 use Rattle.words.specs.Places.{ports}
 use Rattle.meaning.specs.Time.{Transmission, carrier}
 use Rattle.meaning.specs.Time as time
-use Rattle.meaning.specs.Log.{Deed, passed, setting, switched, event, changed, felt, started, renewed, halted, left, now, modeOf, contactOf, relayOf, lastOf, ownerOf, onAir, until}
-use Rattle.meaning.specs.Table.{refused, taken, replied, Judged, refusal, error, does, Row, no, Call, line, overlong, reading, closing, waiting, answerOf, deedsOf, rowOf, judge, logged, dueOf, due, ordered, completions, carriers, Said, said, set-IR, get-IR, setstate, getstate, sendir, stopir, request}
+use Rattle.meaning.specs.Lamp.{Lamp, dark, level, turned}
+use Rattle.meaning.specs.Log.{Deed, passed, setting, switched, event, changed, felt, lit, started, renewed, halted, left, now, modeOf, contactOf, lampOf, relayOf, lastOf, ownerOf, onAir, until}
+use Rattle.meaning.specs.Table.{refused, taken, replied, Judged, refusal, error, does, Row, no, Call, line, overlong, reading, closing, waiting, answerOf, deedsOf, rowOf, judge, logged, dueOf, due, ordered, completions, carriers, levels, Said, said, set-IR, get-IR, setstate, getstate, sendir, stopir, set-LED-LIGHTING, get-LED-LIGHTING, request}
 use Rattle.theorems.specs.Later.{Alike}
 use Rattle.theorems.specs.Occasion.{saysError}
 use Rattle.theorems.proofs.Rows.{by-rows}
@@ -35,6 +36,7 @@ module _ (a b : List Deed) (q : Alike a b) where
   modes-on (passed n) p = q .modes p
   modes-on (setting r (changed word)) p = ap (cond (eqb r p) word) (q .modes p)
   modes-on (setting r (felt value)) p = q .modes p
+  modes-on (setting r (lit target ramp)) p = q .modes p
   modes-on (switched r state) p = q .modes p
   modes-on (event x) p = q .modes p
 
@@ -42,8 +44,18 @@ module _ (a b : List Deed) (q : Alike a b) where
   contacts-on (passed n) p = q .contacts p
   contacts-on (setting r (changed word)) p = rw (q .contacts p)
   contacts-on (setting r (felt value)) p = rw (q .contacts p)
+  contacts-on (setting r (lit target ramp)) p = q .contacts p
   contacts-on (switched r state) p = q .contacts p
   contacts-on (event x) p = q .contacts p
+
+  lamps-on : (d : Deed) (p : ℕ) → lampOf p (d ∷ a) ≡ lampOf p (d ∷ b)
+  lamps-on (passed n) p = q .lamps p
+  lamps-on (setting r (changed word)) p = ap (cond (eqb r p) dark) (q .lamps p)
+  lamps-on (setting r (felt value)) p = q .lamps p
+  lamps-on (setting r (lit target ramp)) p =
+      ap₂ (λ (t : ℕ) (x : Lamp). cond (eqb r p) (turned x target ramp t) x) (q .moments) (q .lamps p)
+  lamps-on (switched r state) p = q .lamps p
+  lamps-on (event x) p = q .lamps p
 
   relays-on : (d : Deed) (p : ℕ) → relayOf p (d ∷ a) ≡ relayOf p (d ∷ b)
   relays-on (passed n) p = q .relays p
@@ -76,6 +88,7 @@ module _ (a b : List Deed) (q : Alike a b) where
         moments = moments-on d;
         modes = modes-on d;
         contacts = contacts-on d;
+        lamps = lamps-on d;
         relays = relays-on d;
         lasts = lasts-on d;
         owners = owners-on d;
@@ -111,9 +124,26 @@ module _ (a b : List Deed) (q : Alike a b) where
     unfolding stopir
     stopir-same = rw (q .modes, airs, q .owners)
 
+    set-LED-LIGHTING-same : set-LED-LIGHTING a c s ≡ set-LED-LIGHTING b c s
+    unfolding set-LED-LIGHTING
+    set-LED-LIGHTING-same = rw (q .modes, q .lamps, q .moments)
+
+    get-LED-LIGHTING-same : get-LED-LIGHTING a c s ≡ get-LED-LIGHTING b c s
+    unfolding get-LED-LIGHTING
+    get-LED-LIGHTING-same = rw (q .modes, q .lamps, q .moments)
+
     request-same : request a c s ≡ request b c s
     unfolding request
-    request-same = rw (set-IR-same, get-IR-same, setstate-same, getstate-same, sendir-same, stopir-same)
+    request-same = rw (
+      set-IR-same,
+      get-IR-same,
+      setstate-same,
+      getstate-same,
+      sendir-same,
+      stopir-same,
+      set-LED-LIGHTING-same,
+      get-LED-LIGHTING-same,
+    )
 
   due-same : (n p : ℕ) → due n a p ≡ due n b p
   due-same n p = λ i. dueOf n (q .moments i) p (q .owners p i) (airs p i)
@@ -129,10 +159,13 @@ module _ (a b : List Deed) (q : Alike a b) where
   judged-same (waiting n) = λ i. cond (ltb 1000000000 n) (refusal 103) (does (taken (completions-alike n i)) (passed n ∷ []))
 
   carriers-same : carriers a ≡ carriers b
-  carriers-same = λ i. map (λ p. lit p i) ports
+  carriers-same = λ i. map (λ p. alike p i) ports
     where
-      lit : (p : ℕ) → holds (λ s. carrier s (now a)) (onAir p a) ≡ holds (λ s. carrier s (now b)) (onAir p b)
-      lit p = ap₂ (λ (t : ℕ) (o : Option Transmission). holds (λ s. carrier s t) o) (q .moments) (airs p)
+      alike : (p : ℕ) → holds (λ s. carrier s (now a)) (onAir p a) ≡ holds (λ s. carrier s (now b)) (onAir p b)
+      alike p = ap₂ (λ (t : ℕ) (o : Option Transmission). holds (λ s. carrier s t) o) (q .moments) (airs p)
+
+  levels-same : levels a ≡ levels b
+  levels-same = λ i. map (λ p. level (q .lamps p i) (q .moments i)) ports
 
 deeds-on : (ds a b : List Deed) → Alike a b → Alike (ds ++ a) (ds ++ b)
 deeds-on [] a b q = q
@@ -148,7 +181,11 @@ said-same a b [] q = refl
 said-same a b (call ∷ l) q =
     let next = logged-alike a b q call in
     ap₂ (λ (x : Said) (y : List Said). x ∷ y)
-    (λ i. record { answer = answerOf (judged-same a b q call i); carriers = carriers-same (logged a call) (logged b call) next i })
+    (λ i. record {
+      answer = answerOf (judged-same a b q call i);
+      carriers = carriers-same (logged a call) (logged b call) next i;
+      levels = levels-same (logged a call) (logged b call) next i;
+    })
     (said-same (logged a call) (logged b call) l next)
 
 -- ---- "A wait of 0 changes nothing."
@@ -159,6 +196,7 @@ wait-of-0 log l =
       moments = add-zero (now log);
       modes = λ p. refl;
       contacts = λ p. refl;
+      lamps = λ p. refl;
       relays = λ p. refl;
       lasts = λ p. refl;
       owners = λ p. refl;
@@ -172,6 +210,7 @@ waits-add log a b l =
       moments = add-assoc (now log) a b;
       modes = λ p. refl;
       contacts = λ p. refl;
+      lamps = λ p. refl;
       relays = λ p. refl;
       lasts = λ p. refl;
       owners = λ p. refl;
@@ -191,9 +230,9 @@ abbrev honestRow : Row → Bool
 honestRow r = all (λ k. honest (k .gives)) (r .checks) && honest (r .otherwise)
 
 request-honest : (log : List Deed) (c : ℕ) (s : List ℕ) → honestRow (request log c s) ≡ true
-unfolding set-IR get-IR setstate getstate sendir stopir
+unfolding set-IR get-IR setstate getstate sendir stopir set-LED-LIGHTING get-LED-LIGHTING
 request-honest log c s =
-    by-rows log c s (λ r. honestRow r ≡ true) (λ words apart. no-error words (apart .error)) refl refl refl refl refl refl refl
+    by-rows log c s (λ r. honestRow r ≡ true) (λ words apart. no-error words (apart .error)) refl refl refl refl refl refl refl refl refl
   where
     no-error : (words : List ℕ) → saysError (replied words none) ≡ false → not (same (bytes "ERR_") (take 4 words)) ≡ true
     no-error [] e = refl

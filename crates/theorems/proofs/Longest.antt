@@ -19,7 +19,7 @@ use Rattle.meaning.specs.Time.{lasts, inTicks, furtherCopy, waveform, total, do
 use Rattle.meaning.specs.Time as time
 use Rattle.meaning.specs.Log.{Deed, passed, event, started, now, onAir}
 use Rattle.meaning.specs.Table.{Call, deedsOf, judge, logOf}
-use Rattle.theorems.specs.Deeds.{Port, Limits, countFits, pairFits, Did, nothing, changes, reads, switches, starts, renews, halts, leaves, passes}
+use Rattle.theorems.specs.Deeds.{Port, Limits, countFits, pairFits, Did, nothing, changes, reads, lights, switches, starts, renews, halts, leaves, passes}
 use Rattle.theorems.specs.Notices.{noticeOf, notices, loggedAll, LeftAlone, longestWaits}
 use Rattle.theorems.proofs.Deeds.{between-is, did}
 use Rattle.theorems.proofs.Times.{micro-first}
@@ -106,6 +106,7 @@ started-within : {log : List Deed} {call : Call} {ds : List Deed} (p c : ℕ) (f
 started-within p c f ps nothing e = clash (cc)
 started-within p c f ps (changes r b word _ _ _ _ _) e = clash (cc)
 started-within p c f ps (reads r v _ _ _ _) e = clash (cc)
+started-within p c f ps (lights r b target ramp _ _ _ _ _ _) e = clash (cc)
 started-within p c f ps (switches r b v _ _ _) e = clash (cc)
 started-within p c f ps (starts r b g qs _ port _ limits _) e =
     let a : r ≡ p = cc in

@@ -253,6 +253,20 @@ module _ (log : List Deed) (connection room : ℕ) (s : List ℕ) where
         each = address-fits 1 1 (λ em ep. (λ e. seventeen, λ e. (λ e. wrong-fits (at-one em) ep refl, λ e. answers refl)));
       }
 
+  set-LED-LIGHTING-fits : Fitting call (table.set-LED-LIGHTING log connection s)
+  unfolding table.set-LED-LIGHTING
+  set-LED-LIGHTING-fits =
+      record {
+        each = address-fits 1 1 (λ em ep. (λ e. wrong-fits (at-one em) ep refl, λ e. (λ e. seventeen, λ e. answers refl)));
+      }
+
+  get-LED-LIGHTING-fits : Fitting call (table.get-LED-LIGHTING log connection s)
+  unfolding table.get-LED-LIGHTING
+  get-LED-LIGHTING-fits =
+      record {
+        each = address-fits 1 1 (λ em ep. (λ e. wrong-fits (at-one em) ep refl, λ e. (λ e. seventeen, λ e. answers refl)));
+      }
+
   request-fits : Fitting call (table.request log connection s)
   request-fits =
       by-rows log connection s (Fitting call)
@@ -263,6 +277,8 @@ module _ (log : List Deed) (connection room : ℕ) (s : List ℕ) where
       getstate-fits
       sendir-fits
       stopir-fits
+      set-LED-LIGHTING-fits
+      get-LED-LIGHTING-fits
       (record { each = errs (nowhere refl) })
 
 row-fits : (log : List Deed) (call : Call) → Fitting call (rowOf log call)

@@ -13,7 +13,7 @@ use Rattle.words.specs.declared.Pair.{Pair}
 use Rattle.words.specs.declared.Fields.{Fields}
 use Rattle.meaning.specs.Log.{Deed, passed, setting, switched, event, started, renewed, halted, left, isOwner, ownerOf, onAir}
 use Rattle.meaning.specs.Table.{Call, line, closing, judge, deedsOf, logOf}
-use Rattle.theorems.specs.Deeds.{Did, nothing, changes, reads, switches, starts, renews, halts, leaves, passes}
+use Rattle.theorems.specs.Deeds.{Did, nothing, changes, reads, lights, switches, starts, renews, halts, leaves, passes}
 use Rattle.theorems.specs.Owners.{StartedBy, StartedAfter}
 use Rattle.theorems.proofs.Deeds.{did}
 
@@ -120,6 +120,7 @@ module _ (p c : ℕ) where
         go ds q nothing e ih = after-too call calls (ih e)
         go ds q (changes r b word _ _ _ _ _) e ih = after-too call calls (ih e)
         go ds q (reads r v _ _ _ _) e ih = after-too call calls (ih e)
+        go ds q (lights r b target ramp _ _ _ _ _ _) e ih = after-too call calls (ih e)
         go ds q (switches r b v _ _ _) e ih = after-too call calls (ih e)
         go ds q (starts r b f ps by _ _ _ _) e ih =
             by-test (eqb r p)

@@ -14,7 +14,7 @@ use Rattle.laws.proofs.Choice.{cond-case}
 use Rattle.laws.proofs.Checks.{through, past}
 use Rattle.meaning.specs.Line.{is}
 use Rattle.meaning.specs.Log.{Deed}
-use Rattle.meaning.specs.Table.{replied, Judged, refusal, Row, row, no, line, heard, judge, field, fixed, set-IR, get-IR, setstate, getstate, sendir, stopir, request}
+use Rattle.meaning.specs.Table.{replied, Judged, refusal, Row, row, no, line, heard, judge, field, fixed, set-IR, get-IR, setstate, getstate, sendir, stopir, set-LED-LIGHTING, get-LED-LIGHTING, request}
 use Rattle.theorems.specs.Occasion.{saysError}
 
 -- the words of a fixed reply begin neither as an error does nor as the state of a relay
@@ -26,9 +26,10 @@ module _ (log : List Deed) (connection : ℕ) (s : List ℕ) where
   -- the requests with a fixed reply are one case
   pub by-rows : (Q : Row → Type 0) → ((words : List ℕ) → Apart words → Q (fixed log connection s words)) → Q (set-IR log connection s)
       → Q (get-IR log connection s) → Q (setstate log connection s) → Q (getstate log connection s) → Q (sendir log connection s)
-      → Q (stopir log connection s) → Q (row [] (no 1)) → Q (request log connection s)
+      → Q (stopir log connection s) → Q (set-LED-LIGHTING log connection s) → Q (get-LED-LIGHTING log connection s) → Q (row [] (no 1))
+      → Q (request log connection s)
   unfolding request
-  by-rows Q told sets gets states state sends stops unknown =
+  by-rows Q told sets gets states state sends stops lights lamp unknown =
       let name = field log connection s 0 in
       named (is "getdevices" name) (told _ (record { error = refl; relay = refl }))
       (named (is "getversion" name) (told _ (record { error = refl; relay = refl }))
@@ -37,7 +38,9 @@ module _ (log : List Deed) (connection : ℕ) (s : List ℕ) where
       (named (is "setstate" name) states
       (named (is "getstate" name) state
       (named (is "sendir" name) sends
-      (named (is "stopir" name) stops unknown)))))))
+      (named (is "stopir" name) stops
+      (named (is "set_LED_LIGHTING" name) lights
+      (named (is "get_LED_LIGHTING" name) lamp unknown)))))))))
     where
       named : (t : Bool) {r other : Row} → Q r → Q other → Q (cond t r other)
       named t {r} {other} here rest = cond-case Q t r other (λ _. here) (λ _. rest)

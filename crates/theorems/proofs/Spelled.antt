@@ -22,10 +22,10 @@ use Rattle.words.specs.declared.Fields.{Fields}
 use Rattle.text.proofs.Reading.{digit-range}
 use Rattle.meaning.specs.Line.{is, number, isNumber, within, isAddress, isCount, isLetter, Reach, opening, on, offDue, off, spelling, Stride, stop, go, stride, Reading, faulty, sound, after, reads, codeIn}
 use Rattle.meaning.specs.Log.{Deed}
-use Rattle.meaning.specs.Table.{Judged, Row, line, judge, request, set-IR, get-IR, setstate, getstate, sendir, stopir}
+use Rattle.meaning.specs.Table.{Judged, Row, line, judge, request, set-IR, get-IR, setstate, getstate, sendir, stopir, set-LED-LIGHTING, get-LED-LIGHTING}
 use Rattle.theorems.proofs.Occasions.{within-between, only}
-use Rattle.theorems.specs.Deeds.{ModeWord, ir, sensor, blaster}
-use Rattle.theorems.specs.Spelled.{fields, at, Heard, Legal, command, IsSendir, devicesTold, versionTold, modeSet, modeTold, relaySet, relayTold, contactTold, commanded, stopped}
+use Rattle.theorems.specs.Deeds.{ModeWord, ir, sensor, blaster, lighting}
+use Rattle.theorems.specs.Spelled.{fields, at, Heard, Legal, command, IsSendir, devicesTold, versionTold, modeSet, modeTold, relaySet, relayTold, contactTold, lampSet, lampTold, commanded, stopped}
 
 -- ---- a line that is heard, by its length and its bytes, is judged by its request's row
 module _ (log : List Deed) (connection room : ℕ) (s : List ℕ) (h : Heard connection room) (short : length s ≤ 4096)
@@ -110,10 +110,10 @@ module _ {ds : List ℕ} {n : ℕ} (d : Spells ds n) where
 
 -- ---- fields that are short, printable and without a comma
 abbrev plain : List ℕ → Bool
-plain w = free 44 w && all (between 32 126) w && leb (length w) 13
+plain w = free 44 w && all (between 32 126) w && leb (length w) 16
 
-plain-of : (w : List ℕ) → free 44 w ≡ true → all (between 32 126) w ≡ true → length w ≤ 13 → plain w ≡ true
-plain-of w f v l = rw (f, v, le-leb (length w) 13 l)
+plain-of : (w : List ℕ) → free 44 w ≡ true → all (between 32 126) w ≡ true → length w ≤ 16 → plain w ≡ true
+plain-of w f v l = rw (f, v, le-leb (length w) 16 l)
 
 plain-free : (ws : List (List ℕ)) → all plain ws ≡ true → all (free 44) ws ≡ true
 plain-free ws e = all-weaker plain (free 44) (λ w h. and-left _ _ (and-left _ _ h)) ws e
@@ -121,14 +121,14 @@ plain-free ws e = all-weaker plain (free 44) (λ w h. and-left _ _ (and-left _ _
 plain-visible : (ws : List (List ℕ)) → all plain ws ≡ true → all (all (between 32 126)) ws ≡ true
 plain-visible ws e = all-weaker plain (all (between 32 126)) (λ w h. and-right (free 44 w) _ (and-left _ _ h)) ws e
 
-plain-length : (ws : List (List ℕ)) → all plain ws ≡ true → length (fields ws) ≤ 14 * length ws
+plain-length : (ws : List (List ℕ)) → all plain ws ≡ true → length (fields ws) ≤ 17 * length ws
 plain-length [] e = omega arith
-plain-length (w ∷ []) e = omega (arith, leb-true (length w) 13 (and-right (free 44 w && all (between 32 126) w) _ (and-left _ _ e)))
+plain-length (w ∷ []) e = omega (arith, leb-true (length w) 16 (and-right (free 44 w && all (between 32 126) w) _ (and-left _ _ e)))
 plain-length (w ∷ v ∷ ws) e =
     omega (
       arith,
       length-append w (44 ∷ fields (v ∷ ws)),
-      leb-true (length w) 13 (and-right (free 44 w && all (between 32 126) w) _ (and-left _ _ e)),
+      leb-true (length w) 16 (and-right (free 44 w && all (between 32 126) w) _ (and-left _ _ e)),
       plain-length (v ∷ ws) (and-right (plain w) _ e),
     )
 
@@ -183,7 +183,7 @@ asked log connection s = first (request log connection s .checks) (request log c
 
 -- a mode word
 record Worded (p : ℕ) (mode : List ℕ) : Type 0 where
-  listed : (is "IR" mode || is "SENSOR" mode || is "IR_BLASTER" mode) ≡ true
+  listed : (is "IR" mode || is "SENSOR" mode || is "IR_BLASTER" mode || is "LED_LIGHTING" mode) ≡ true
   allowed : (is "IR_BLASTER" mode && not (eqb p 3)) ≡ false
   fair : plain mode ≡ true
 
@@ -191,6 +191,7 @@ worded : {p : ℕ} {mode : List ℕ} → ModeWord p mode → Worded p mode
 worded (ir w) = rw w (record { listed = refl; allowed = refl; fair = refl })
 worded (sensor w) = rw w (record { listed = refl; allowed = refl; fair = refl })
 worded {p} (blaster w e) = rw w (record { listed = refl; allowed = rw (eq-eqb p 3 e); fair = refl })
+worded (lighting w) = rw w (record { listed = refl; allowed = refl; fair = refl })
 
 module _ (log : List Deed) (connection : ℕ) (s : List ℕ) where
   module _ {f : List ℕ} {p : ℕ} where
@@ -231,6 +232,28 @@ module _ (log : List Deed) (connection : ℕ) (s : List ℕ) where
     stopir-row : IsAt f 1 p → cut 44 s ≡ bytes "stopir" ∷ f ∷ [] → asked log connection s ≡ stopped log connection p
     unfolding request stopir
     stopir-row a e =
+        rw (e, a .whole, a .from 1 1 (omega arith) (omega arith), a .moduleIs, a .port, a .portIs)
+
+    set-LED-LIGHTING-row : {dt dr : List ℕ} {target ramp : ℕ} → IsAt f 1 p → Spells dt target → 1 ≤ target → target ≤ 100 → Spells dr ramp
+        → ramp ≤ 10 → cut 44 s ≡ bytes "set_LED_LIGHTING" ∷ f ∷ dt ∷ dr ∷ [] → asked log connection s ≡ lampSet log p target ramp false
+    unfolding request set-LED-LIGHTING
+    set-LED-LIGHTING-row a t l m r n e =
+        rw (
+          e,
+          a .whole,
+          a .from 1 1 (omega arith) (omega arith),
+          a .moduleIs,
+          a .port,
+          a .portIs,
+          digits-within t 1 100 l m,
+          digits-within r 0 10 (omega arith) n,
+          t .value,
+          r .value,
+        )
+
+    get-LED-LIGHTING-row : IsAt f 1 p → cut 44 s ≡ bytes "get_LED_LIGHTING" ∷ f ∷ [] → asked log connection s ≡ lampTold log p false
+    unfolding request get-LED-LIGHTING
+    get-LED-LIGHTING-row a e =
         rw (e, a .whole, a .from 1 1 (omega arith) (omega arith), a .moduleIs, a .port, a .portIs)
 
 module _ (log : List Deed) (connection room : ℕ) (h : Heard connection room) where
@@ -274,6 +297,23 @@ module _ (log : List Deed) (connection room : ℕ) (h : Heard connection room) w
         let a = is-at one port least most in
         spelled log connection room h (bytes "stopir") (at dm dp ∷ []) (stopped log connection p) (rw (a .fair)) (omega arith)
         (λ s e. stopir-row log connection s a e)
+
+    -- set_LED_LIGHTING,1:p,target,ramp
+    pub set-LED-LIGHTING-spelled : {dt dr : List ℕ} {target ramp : ℕ} → Spells dm 1 → Spells dt target → 1 ≤ target → target ≤ 100
+        → Spells dr ramp → ramp ≤ 10
+        → judge log (line connection room (fields (bytes "set_LED_LIGHTING" ∷ at dm dp ∷ dt ∷ dr ∷ []))) ≡ lampSet log p target ramp false
+    set-LED-LIGHTING-spelled {dt} {dr} {target} {ramp} one t l m r n =
+        let a = is-at one port least most in
+        spelled log connection room h (bytes "set_LED_LIGHTING") (at dm dp ∷ dt ∷ dr ∷ []) (lampSet log p target ramp false)
+        (rw (a .fair, digits-plain t, digits-plain r)) (omega arith) (λ s e. set-LED-LIGHTING-row log connection s a t l m r n e)
+
+    -- get_LED_LIGHTING,1:p
+    pub get-LED-LIGHTING-spelled : Spells dm 1
+        → judge log (line connection room (fields (bytes "get_LED_LIGHTING" ∷ at dm dp ∷ []))) ≡ lampTold log p false
+    get-LED-LIGHTING-spelled one =
+        let a = is-at one port least most in
+        spelled log connection room h (bytes "get_LED_LIGHTING") (at dm dp ∷ []) (lampTold log p false) (rw (a .fair)) (omega arith)
+        (λ s e. get-LED-LIGHTING-row log connection s a e)
 
   module _ {dm dp : List ℕ} {p : ℕ} (port : Spells dp p) (least : 1 ≤ p) (most : p ≤ relays) where
     -- setstate,2:p,s

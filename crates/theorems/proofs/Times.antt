@@ -13,7 +13,7 @@ use Rattle.meaning.specs.Time.{Transmission, total, done, complete, firstMicro,
 use Rattle.meaning.specs.Time as time
 use Rattle.meaning.specs.Log.{Deed, now, lastOf, onAir, until}
 use Rattle.meaning.specs.Table.{Call, logOf}
-use Rattle.theorems.specs.Deeds.{Limits, Did, nothing, changes, reads, switches, starts, renews, halts, leaves, passes}
+use Rattle.theorems.specs.Deeds.{Limits, Did, nothing, changes, reads, lights, switches, starts, renews, halts, leaves, passes}
 use Rattle.theorems.proofs.Deeds.{did}
 
 -- ---- the first whole microsecond
@@ -84,6 +84,7 @@ unfolding time.started
 did-begun p log call ds nothing b = b
 did-begun p log call ds (changes r c word _ _ _ _ _) b = b
 did-begun p log call ds (reads r v _ _ _ _) b = b
+did-begun p log call ds (lights r c target ramp _ _ _ _ _ _) b = b
 did-begun p log call ds (switches r c v _ _ _) b = b
 did-begun p log call ds (starts r c f ps _ _ _ limits _) b =
     cond-case (BegunBy (now log)) (eqb r p) (some (time.started f ps (now log))) (lastOf p log)

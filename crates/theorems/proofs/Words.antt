@@ -19,7 +19,7 @@ use Rattle.text.proofs.Decimals.{decimal-value}
 use Rattle.text.proofs.Reading.{digit-range}
 use Rattle.meaning.specs.Log.{Deed, modeOf}
 use Rattle.meaning.specs.Table.{Call, logOf}
-use Rattle.theorems.specs.Deeds.{ModeWord, ir, inSensor, Did, nothing, changes, reads, switches, starts, renews, halts, leaves, passes}
+use Rattle.theorems.specs.Deeds.{ModeWord, ir, inSensor, inLighting, Did, nothing, changes, reads, lights, switches, starts, renews, halts, leaves, passes}
 use Rattle.theorems.proofs.Deeds.{did}
 
 -- two words are the same exactly when they are equal
@@ -34,12 +34,17 @@ ports-are = (refl, refl, refl)
 pub in-sensor-means : (p : ℕ) (log : List Deed) → (inSensor p log ≡ true) ↔ (modeOf p log ≡ bytes "SENSOR")
 in-sensor-means p log = (λ e. sym (same-is _ (modeOf p log) e), λ e. rw e)
 
--- after every history each connector has one of the three modes
+-- and in LED_LIGHTING where that is
+pub in-lighting-means : (p : ℕ) (log : List Deed) → (inLighting p log ≡ true) ↔ (modeOf p log ≡ bytes "LED_LIGHTING")
+in-lighting-means p log = (λ e. sym (same-is _ (modeOf p log) e), λ e. rw e)
+
+-- after every history each connector has one of the four modes
 did-mode : (p : ℕ) (log : List Deed) (call : Call) (ds : List Deed) → Did log call ds → ModeWord p (modeOf p log)
     → ModeWord p (modeOf p (ds ++ log))
 did-mode p log call ds nothing m = m
 did-mode p log call ds (changes r c word _ _ is _ _) m = by-test (eqb r p) (λ t. rw (t, ← eqb-true r p t) is) (λ t. rw t m)
 did-mode p log call ds (reads r v _ _ _ _) m = m
+did-mode p log call ds (lights r c target ramp _ _ _ _ _ _) m = m
 did-mode p log call ds (switches r c v _ _ _) m = m
 did-mode p log call ds (starts r c f ps _ _ _ _ _) m = m
 did-mode p log call ds (renews r c s _ _ _ _ _) m = m

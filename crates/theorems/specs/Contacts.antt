@@ -10,7 +10,7 @@ use Rattle.laws.specs.Checks.{between}
 use Rattle.laws.specs.Lists.{all, cut, part}
 use Rattle.words.specs.Places.{portsOf}
 use Rattle.meaning.specs.Line.{number, within, isAddress}
-use Rattle.meaning.specs.Log.{Deed, passed, setting, switched, event, felt}
+use Rattle.meaning.specs.Log.{Deed, passed, setting, switched, event, changed, felt, lit}
 use Rattle.meaning.specs.Table.{Call, reading, judge, deedsOf, logOf}
 
 -- a line "getstate,m:p" that is heard: from a connection 0 to 7 with room for a reply, at most 4,096 bytes from 32 to 126, no more fields
@@ -30,7 +30,9 @@ pub record AsksState (m p connection room : ℕ) (s : List ℕ) : Type 0 where
 -- a reading of contact p, or a change of its mode
 abbrev pub isSetting : ℕ → Deed → Bool
 isSetting p (passed n) = false
-isSetting p (setting q x) = eqb q p
+isSetting p (setting q (changed mode)) = eqb q p
+isSetting p (setting q (felt value)) = eqb q p
+isSetting p (setting q (lit target ramp)) = false
 isSetting p (switched q state) = false
 isSetting p (event x) = false
 

@@ -1,7 +1,7 @@
 -- Each request of the table written out, with any digits that its numbers may have.
 use Prim.Native.Nat.{ℕ, _*_, _%_, _≤_, _<_}
 use mathlib.Core.Path.{_≡_}
-use mathlib.Core.Bool.{true, cond, not, _&&_}
+use mathlib.Core.Bool.{Bool, true, cond, not, _&&_}
 use mathlib.Core.List.{List, [], _∷_, _++_}
 use mathlib.Core.Option.{Option, none, Option·getD}
 use lib.Dec.{ltb}
@@ -14,9 +14,11 @@ use Rattle.words.specs.Places.{connectors}
 use Rattle.words.specs.declared.Pair.{Pair}
 use Rattle.words.specs.declared.Fields.{Fields}
 use Rattle.meaning.specs.Line as text
-use Rattle.meaning.specs.Line.{is, number, within, isAddress, addressed, sound, codeIn}
-use Rattle.meaning.specs.Log.{Deed, setting, switched, event, changed, started, renewed, halted, modeOf, contactOf, relayOf, ownerOf, isOwner, onAir}
-use Rattle.meaning.specs.Table.{Judged, error, does, taken, replied, reply, isSame}
+use Rattle.meaning.specs.Line.{number, within, isAddress, addressed, sound, codeIn}
+use Rattle.meaning.specs.Lamp.{Lamp, level, turned}
+use Rattle.meaning.specs.Log.{Deed, setting, switched, event, changed, lit, started, renewed, halted, now, modeOf, contactOf, lampOf, relayOf, ownerOf, isOwner, onAir}
+use Rattle.meaning.specs.Table.{Judged, error, no, does, taken, replied, reply, isSame}
+use Rattle.theorems.specs.Deeds.{inSensor, inLighting, silent}
 
 -- fields with commas between them; an address m:p
 abbrev pub fields : List (List ℕ) → List ℕ
@@ -97,9 +99,24 @@ relayTold log p = reply (text.line "state," 2 p (decimal (relayOf p log))) []
 
 abbrev pub contactTold : List Deed → ℕ → Judged
 contactTold log p = first
-    ((not (is "SENSOR" (modeOf p log)) ⇒ error 18 1 p)
+    ((not (inSensor p log) ⇒ error 18 1 p)
     ∷ (not (isSome (contactOf p log)) ⇒ error 28 1 p)
     ∷ []) (reply (text.line "state," 1 p (decimal (Option·getD (contactOf p log) 0))) [])
+
+-- `LED_LIGHTING`, address, "present level, target"
+abbrev pub lampLine : List Deed → ℕ → Lamp → List ℕ
+lampLine log p x = text.line "LED_LIGHTING," 1 p (decimal (level x (now log)) ++ bytes "," ++ decimal (x .target))
+
+-- "023 for a bad target, bad ramp or a connector not in this mode, then 017 for a surplus": what is left of it once target and ramp are read, and
+-- `more` is whether something stands behind them
+abbrev pub lampSet : List Deed → ℕ → ℕ → ℕ → Bool → Judged
+lampSet log p target ramp more = first
+    ((not (inLighting p log) ⇒ error 23 1 p)
+    ∷ (more ⇒ no 17)
+    ∷ []) (reply (lampLine log p (turned (lampOf p log) target ramp (now log))) (setting p (lit target ramp) ∷ []))
+
+abbrev pub lampTold : List Deed → ℕ → Bool → Judged
+lampTold log p more = first ((not (inLighting p log) ⇒ error 23 1 p) ∷ (more ⇒ no 17) ∷ []) (reply (lampLine log p (lampOf p log)) [])
 
 abbrev pub starts : ℕ → ℕ → Fields → List Pair → Judged
 starts connection p f ps = does (taken []) (event (started p connection f ps) ∷ [])
@@ -113,7 +130,7 @@ sent log connection p f ps = first
     ∷ []) (starts connection p f ps)
 
 abbrev pub commanded : List Deed → ℕ → ℕ → Fields → List Pair → Judged
-commanded log connection p f ps = first ((is "SENSOR" (modeOf p log) ⇒ error 13 1 p) ∷ []) (sent log connection p f ps)
+commanded log connection p f ps = first ((silent p log ⇒ error 13 1 p) ∷ []) (sent log connection p f ps)
 
 -- whom else a stopir is told: "the owner of a halted transmission, if another connection"
 abbrev pub toldOf : List Deed → ℕ → ℕ → Option ℕ
@@ -121,5 +138,5 @@ toldOf log connection p = cond (isSome (onAir p log) && not (isOwner connection 
 
 abbrev pub stopped : List Deed → ℕ → ℕ → Judged
 stopped log connection p = first
-    ((is "SENSOR" (modeOf p log) ⇒ error 13 1 p)
+    ((silent p log ⇒ error 13 1 p)
     ∷ []) (does (replied (addressed "stopir," 1 p ++ bytes "\r") (toldOf log connection p)) (event (halted p) ∷ []))

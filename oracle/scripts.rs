@@ -9,7 +9,7 @@ mod random;
 #[path = "words.rs"]
 mod words;
 
-use hub::{Command, Hub, Mode, Moment, Periods, Sending, MOST_PAIRS};
+use hub::{Command, Hub, Lamp, Level, Moment, Periods, Sending, MOST_PAIRS};
 use random::Random;
 use std::cmp::Reverse;
 use std::io::{self, Write};
@@ -69,7 +69,7 @@ impl Script {
     }
 
     fn idle_port(&mut self) -> Option<u64> {
-        self.chosen_port(|connector| connector.sending().is_none() && connector.mode() != Mode::Sensor)
+        self.chosen_port(|connector| connector.sending().is_none() && connector.mode().transmits())
     }
 
     fn sending(&self, port: u64) -> Option<&Sending> {
@@ -133,7 +133,7 @@ impl Script {
     fn start(&mut self) {
         let command = self.random.command();
         let port = self.idle_port().unwrap_or(self.random.port());
-        if self.hub.connector(port).mode() == Mode::Sensor {
+        if !self.hub.connector(port).mode().transmits() {
             self.request(0, format!("set_IR,1:{port},IR"));
         }
         let connection = self.connection();
@@ -227,7 +227,7 @@ impl Script {
         if self.sending(port).is_some() {
             self.request(0, format!("stopir,1:{port}"));
         }
-        if self.hub.connector(port).mode() == Mode::Sensor {
+        if !self.hub.connector(port).mode().transmits() {
             self.request(0, format!("set_IR,1:{port},IR"));
         }
     }
@@ -454,6 +454,14 @@ impl Script {
         }
         self.request(0, "getversion");
     }
+}
+
+/// The moments when a lamp will reach, or pass between two microseconds, the whole percents on the rest of its way.
+pub fn percents_ahead(lamp: &Lamp, now: Moment) -> Vec<Moment> {
+    let (level, goal) = (lamp.level_at(now), lamp.goal());
+    let on_the_way = |place: &Level| (level < *place && *place <= goal) || (goal <= *place && *place < level);
+    let first_moment_at = |place: Level| lamp.told.0 + lamp.from.0.abs_diff(place.0).div_ceil(u128::from(lamp.ramp));
+    (0..=100).map(Level::of_percent).filter(on_the_way).map(|place| Moment(first_moment_at(place))).collect()
 }
 
 /// The script of a seed. Every fourth ends without LF, so that its last line is of another form.

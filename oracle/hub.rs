@@ -291,7 +291,8 @@ impl Sending {
 
 // ---- Lamps
 
-/// A lamp since it was last told something: the level it had then, and where it goes from there. A target and a ramp are percents.
+/// A lamp since it was last told something: the level it had then, and where it goes from there. The target is in percent, the ramp in percent for
+/// each 100,000 us.
 #[derive(Clone, Copy)]
 pub struct Lamp {
     pub told: Moment,
@@ -346,7 +347,7 @@ impl Mode {
     }
 
     /// 013: "sendir or stopir to a connector in SENSOR"; document 02, request 3, of a lamp: "sendir and stopir there get 013."
-    pub fn transmits(self) -> bool {
+    pub fn can_transmit(self) -> bool {
         matches!(self, Mode::Ir | Mode::IrBlaster)
     }
 
@@ -684,7 +685,7 @@ impl Hub {
 
     /// sendir: "013, 004, 005, 006, 007, code faults, 007 for an offset beyond the code, busyIR".
     fn send(&mut self, from: u64, port: u64, fields: &Fields, line: &[u8]) -> Result<Vec<Said>, u32> {
-        if !self.connector(port).mode().transmits() {
+        if !self.connector(port).mode().can_transmit() {
             return Err(13);
         }
         let command = read_command(fields.get(2), fields.get(3), fields.get(4), fields.get(5), fields.get(6))?;
@@ -712,7 +713,7 @@ impl Hub {
     /// stopir: "017, 013"; its reply, and "the same to the owner of a halted transmission, if another connection".
     fn stop(&mut self, from: u64, port: u64, fields: &Fields) -> Result<Vec<Said>, u32> {
         fields.no_more_than(2)?;
-        if !self.connector(port).mode().transmits() {
+        if !self.connector(port).mode().can_transmit() {
             return Err(13);
         }
         let mut said = reply(from, format!("stopir,1:{port}"));

@@ -1,6 +1,6 @@
-//! The logbook: a second logger, to be compared with the proved one line by line. It was written from documents 01 and 02 (requests [1] and [3]) alone, by
-//! hands that had not seen the proved code. A reply is taken apart field by field and looked up in a table of what a hub can write; a request is composed from
-//! numbers. Words in quotation marks are the documents'.
+//! The logbook: a second logger, to be compared with the proved one line by line. It was written from documents 01 and 02 (requests [1] and [3]) alone,
+//! by hands that had not seen the proved code. A reply is taken apart field by field and looked up in a table of what a hub can write; a request is
+//! composed from numbers. Words in quotation marks are the documents'.
 //! The program is a filter: `< LINE` asks what the reply LINE is, `> NAME ..` composes a request, `= M P` asks for the average of a place's state lines.
 //! Each line of input gets one line of output, and a line of another form gets `!`.
 

@@ -206,12 +206,12 @@ impl Step<'_> {
         self.hub.connectors.iter().filter_map(Connector::lamp).any(|lamp| self.is_under_way(&lamp))
     }
 
-    /// The course of a lamp with a ramp whose level was asked for.
+    /// The course of a lamp that was told to go somewhere by a ramp and whose level was asked for.
     fn course(&self) -> Option<Course> {
         let asked = self.says("LED_LIGHTING", "") && self.field(0) == b"get_LED_LIGHTING";
-        let lamp = self.lamp_before().filter(|lamp| asked && lamp.ramp > 0)?;
+        let lamp = self.lamp_before().filter(|lamp| asked && lamp.ramp > 0 && lamp.from != lamp.goal())?;
         let (now, goal) = (self.hub.now.0, lamp.goal());
-        let [before, now, after] = [(now - 1).max(lamp.told.0), now, now + 1].map(|moment| lamp.level_at(Moment(moment)));
+        let [before, now, after] = [now.saturating_sub(1).max(lamp.told.0), now, now + 1].map(|moment| lamp.level_at(Moment(moment)));
         Some(Course { rises: lamp.from < goal, before, now, after, goal })
     }
 
@@ -346,7 +346,7 @@ fn courses() -> Vec<Aim> {
     let asked: [(&str, fn(&Course) -> bool); 10] = [
         ("under way", |course| course.before != course.now && course.now != course.after),
         ("at a whole percent", |course| is_whole(course.now) && course.now != course.after),
-        ("1 us before a whole percent", |course| is_whole(course.after) && course.now != course.after),
+        ("1 us before a whole percent", |course| is_whole(course.after) && course.now != course.after && course.after != course.goal),
         ("1 us after a whole percent", |course| is_whole(course.before) && course.before != course.now),
         ("just after it passed a percent", |course| passed_a_percent(course.before, course.now)),
         ("just before it passed a percent", |course| passed_a_percent(course.now, course.after)),

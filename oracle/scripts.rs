@@ -1,5 +1,5 @@
 //! scripts SEED LINES: prints one script for the bench, the same for the same seed. To meet exact moments the generator runs the oracle
-//! beside what it writes and asks it where its transmissions are; it need not be independent of it.
+//! beside what it writes and asks it where its transmissions and lamps are; it need not be independent of it.
 
 #[path = "hub.rs"]
 #[allow(dead_code)] // only some of the hub's questions are asked here
@@ -69,7 +69,7 @@ impl Script {
     }
 
     fn idle_port(&mut self) -> Option<u64> {
-        self.chosen_port(|connector| connector.sending().is_none() && connector.mode().transmits())
+        self.chosen_port(|connector| connector.sending().is_none() && connector.mode().can_transmit())
     }
 
     fn sending(&self, port: u64) -> Option<&Sending> {
@@ -133,7 +133,7 @@ impl Script {
     fn start(&mut self) {
         let command = self.random.command();
         let port = self.idle_port().unwrap_or(self.random.port());
-        if !self.hub.connector(port).mode().transmits() {
+        if !self.hub.connector(port).mode().can_transmit() {
             self.request(0, format!("set_IR,1:{port},IR"));
         }
         let connection = self.connection();
@@ -227,7 +227,7 @@ impl Script {
         if self.sending(port).is_some() {
             self.request(0, format!("stopir,1:{port}"));
         }
-        if !self.hub.connector(port).mode().transmits() {
+        if !self.hub.connector(port).mode().can_transmit() {
             self.request(0, format!("set_IR,1:{port},IR"));
         }
     }

@@ -17,7 +17,7 @@ passed-requires : tie.Need-passed-requires
 passed-requires c κs =
     let sending = c .before .before .before .before in
     let start = sending .before .before in
-    let s = rw (sending .sending .given .1) at (start .pre .0) in
+    let s = rw (sending .sending .given .1) at (start .pre .0 .sends) in
     (s .paced, omega arith, s .freq-high, start .pre .1)
 
 enum-known-pace : tie.Need-enum-known-pace
@@ -35,8 +35,11 @@ cast-id c = search needs
 with-sending-requires-2 : tie.Need-with-sending-requires-2
 with-sending-requires-2 c κs = search needs
 
+lit-requires : tie.Need-lit-requires
+lit-requires c κs = search needs
+
 returns : tie.Need-returns
-returns c = search needs
+returns c = rw (c .before .enum-told .given .1) (c .lit .ensures)
 
 returns-2 : tie.Need-returns-2
 returns-2 c =
@@ -53,6 +56,7 @@ pass-spec =
     tie.close
     (tie.spec
     enum-told
+    lit-requires
     enum-known-sending
     cast-passed
     passed-requires

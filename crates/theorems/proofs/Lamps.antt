@@ -1,27 +1,28 @@
 -- Lamps over logs and histories: each sentence of request 3 of document 02 on what a lamp does is one theorem.
-use Prim.Native.Nat.{ℕ, _+_, _≤_, _<_}
+use Prim.Native.Nat.{ℕ, _+_, _*_, _≤_}
 use mathlib.Core.Path.{_≡_, refl, sym, ap, _∙_}
-use mathlib.Core.Bool.{Bool, true, false, cond, not, _&&_}
-use mathlib.Core.List.{List, [], _∷_, _++_, map}
+use mathlib.Core.Bool.{true, false, not}
+use mathlib.Core.List.{List, [], _∷_, _++_, map, append-nil}
 use mathlib.Core.Option.{none}
 use native.Mathlib.Nat.{add-assoc}
 use native.Mathlib.Omega.{arith}
-use borrow.Author.Tests.{eqb-true, eq-eqb, not-true, le-ltb, lt-ltb}
-use lib.Dec.{ltb, eqb}
-use lib.ListN.{length}
+use borrow.Author.Tests.{eqb-true, eq-eqb, not-true, le-leb}
+use lib.Dec.{leb, eqb}
 use Rattle.laws.proofs.Choice.{by-test, cond-case, not-both, and-left, and-right}
-use Rattle.laws.specs.Lists.{all, cut, part}
+use Rattle.laws.specs.Lists.{all}
 use Rattle.words.specs.Places.{connectors, ports}
 use Rattle.words.specs.Digits.{Spells}
-use Rattle.meaning.specs.Lamp.{Lamp, exactly, dark, exactLevel, level, turned}
+use Rattle.words.specs.Decimal.{decimal}
+use Rattle.meaning.specs.Line.{isNumber, within, isAddress}
+use Rattle.meaning.specs.Lamp.{Lamp, exactly, dark, towards, exactLevel, level, turned}
 use Rattle.meaning.specs.Log.{Deed, passed, setting, switched, event, changed, felt, lit, now, modeOf, lampOf, onAir}
-use Rattle.meaning.specs.Table.{Call, line, deedsOf, judge, logged, logOf, levels}
+use Rattle.meaning.specs.Table.{Call, line, deedsOf, judge, logged, logOf, levels, said, set-IR, stopir, set-LED-LIGHTING, get-LED-LIGHTING, request}
 use Rattle.theorems.specs.Deeds.{ModeWord, inLighting, Did, nothing, changes, reads, lights, switches, starts, renews, halts, leaves, passes}
 use Rattle.theorems.specs.Spelled.{Heard, settingText}
-use Rattle.theorems.specs.Lamps.{LampWithin, isLighting, LastLit, never, entered, last, AsksLamp}
+use Rattle.theorems.specs.Lamps.{Moved, LampWithin, isLighting, LastLit, never, entered, last, Step, session, saidOf}
 use Rattle.theorems.proofs.Deeds.{did}
 use Rattle.theorems.proofs.Commands.{mode-again}
-use Rattle.theorems.proofs.Ramps.{exact-most}
+use Rattle.theorems.proofs.Ramps.{instant, moves-exactly, from-exact-level, exact-most, level-most}
 
 -- ---- within the limits, over a history
 dark-within : (t : ℕ) → LampWithin dark t
@@ -64,10 +65,24 @@ pub lamp-within : (h : List Call) (p : ℕ) → LampWithin (lampOf p (logOf h)) 
 lamp-within [] p = dark-within 0
 lamp-within (call ∷ h) p = did-lamp-within p (logOf h) call _ (did (logOf h) call) (lamp-within h p)
 
+pub level-within : (h : List Call) (p t : ℕ) → level (lampOf p (logOf h)) t ≤ 100
+level-within h p t = level-most (lamp-within h p) t
+
+pub levels-within : (h : List Call) → all (λ n. leb n 100) (levels (logOf h)) ≡ true
+levels-within h = go ports
+  where
+    go : (l : List ℕ) → all (λ n. leb n 100) (map (λ p. level (lampOf p (logOf h)) (now (logOf h))) l) ≡ true
+    go [] = refl
+    go (p ∷ l) = rw (le-leb (level (lampOf p (logOf h)) (now (logOf h))) 100 (level-within h p (now (logOf h)))) (go l)
+
 -- ---- "0 where there is no lamp"
 pub dark-level : (t : ℕ) → level dark t ≡ 0
 unfolding level exactLevel
 dark-level t = refl
+
+-- a target of 0 stands with a level of 0 alone
+pub no-target-no-level : (h : List Call) (p t : ℕ) → lampOf p (logOf h) .target ≡ 0 → level (lampOf p (logOf h)) t ≡ 0
+no-target-no-level h p t e = rw (lamp-within h p .unlit e) (dark-level t)
 
 did-no-lamp : (p : ℕ) (log : List Deed) (call : Call) (ds : List Deed) → Did log call ds → (inLighting p log ≡ false → lampOf p log ≡ dark)
     → inLighting p (ds ++ log) ≡ false → lampOf p (ds ++ log) ≡ dark
@@ -107,6 +122,23 @@ entering-dark log call p differs = go (deedsOf (judge log call)) (did log call) 
     go ds (leaves c _ _) d = absurd (d refl)
     go ds (passes n _ _) d = absurd (d refl)
 
+-- only a line turns a lamp or takes it away: no reading, no closing, no wait, refused or not
+pub only-lines-turn : (log : List Deed) (call : Call) (p : ℕ) → ((connection room : ℕ) (s : List ℕ) → call ≡ line connection room s → ⊥)
+    → lampOf p (logged log call) ≡ lampOf p log
+only-lines-turn log call p n = go (deedsOf (judge log call)) (did log call)
+  where
+    go : (ds : List Deed) → Did log call ds → lampOf p (ds ++ log) ≡ lampOf p log
+    go ds nothing = refl
+    go ds (changes q c word by _ _ _ _) = absurd (n c (by .room) (by .text) (by .is))
+    go ds (reads q v _ _ _ _) = refl
+    go ds (lights q c target ramp by _ _ _ _ _) = absurd (n c (by .room) (by .text) (by .is))
+    go ds (switches q _ state _ _ _) = refl
+    go ds (starts q _ f ps _ _ _ _ _) = refl
+    go ds (renews q _ s _ _ _ _ _) = refl
+    go ds (halts q _ _ _ _) = refl
+    go ds (leaves c _ _) = refl
+    go ds (passes m _ _) = refl
+
 -- ---- where a lamp comes from
 lit-later : (p : ℕ) (d : Deed) {log : List Deed} {x : Lamp} → isLighting p d ≡ false → LastLit log p x → LastLit (d ∷ log) p x
 lit-later p d e (never a) = never (rw (e, a))
@@ -143,6 +175,40 @@ unlit-keeps p (setting q (lit target ramp) ∷ ds) log a =
 unlit-keeps p (switched q state ∷ ds) log a = unlit-keeps p ds log a
 unlit-keeps p (event x ∷ ds) log a = unlit-keeps p ds log a
 
+pub last-lit-is-lamp : (log : List Deed) (p : ℕ) {x : Lamp} → LastLit log p x → lampOf p log ≡ x
+unfolding turned
+last-lit-is-lamp log p (never a) = ap (lampOf p) (sym (append-nil log)) ∙ unlit-keeps p log [] a
+last-lit-is-lamp log p (entered later earlier mode splits a) =
+    rw splits (unlit-keeps p later (setting p (changed mode) ∷ earlier) a ∙ rw (eq-eqb p p refl))
+last-lit-is-lamp log p (last later earlier target ramp splits a) =
+    rw splits (unlit-keeps p later (setting p (lit target ramp) ∷ earlier) a ∙ rw (eq-eqb p p refl))
+
+-- from the exact level that it had when it got its last target, n µs ago, a lamp has moved ramp × n hundred-thousandths of a percent towards it
+module _ (p target ramp : ℕ) (later earlier log : List Deed) (splits : log ≡ later ++ (setting p (lit target ramp) ∷ earlier))
+    (quiet : all (λ d. not (isLighting p d)) later ≡ true) where
+  lamp-is : lampOf p log ≡ turned (lampOf p earlier) target ramp (now earlier)
+  unfolding turned
+  lamp-is = last-lit-is-lamp log p (last later earlier target ramp splits quiet)
+
+  pub moved-since-target : (n : ℕ) → now log ≡ now earlier + n → 1 ≤ ramp
+      → Moved (exactLevel (lampOf p earlier) (now earlier)) (exactly target) (ramp * n) (exactLevel (lampOf p log) (now log))
+  unfolding turned
+  moved-since-target n e r =
+      let x = turned (lampOf p earlier) target ramp (now earlier) in
+      let m = moves-exactly x (now earlier) (omega arith) n r in
+      rw (lamp-is, e) (rw (from-exact-level (lampOf p earlier) target ramp (now earlier) r) at m)
+
+  pub instant-since-target : ramp ≡ 0 → exactLevel (lampOf p log) (now log) ≡ exactly target
+  unfolding turned
+  instant-since-target z = rw lamp-is (instant (turned (lampOf p earlier) target ramp (now earlier)) (now log) z)
+
+-- after every history a wait moves each lamp by its ramp × n hundred-thousandths of a percent towards its target
+pub wait-moves : (h : List Call) (p n : ℕ)
+    → let x = lampOf p (logOf h) in
+    1 ≤ x .ramp
+    → Moved (exactLevel x (now (logOf h))) (exactly (x .target)) (x .ramp * n) (exactLevel (lampOf p (passed n ∷ logOf h)) (now (passed n ∷ logOf h)))
+wait-moves h p n r = moves-exactly (lampOf p (logOf h)) (now (logOf h)) (lamp-within h p .begun) n r
+
 -- ---- "Demand 3 covers levels from here": two waits and one of their sum
 pub levels-compose : (log : List Deed) (n m : ℕ) → levels (passed m ∷ passed n ∷ log) ≡ levels (passed (n + m) ∷ log)
 levels-compose log n m = ap (λ (t : ℕ). map (λ p. level (lampOf p log) t) ports) (add-assoc (now log) n m)
@@ -153,3 +219,8 @@ pub mode-again-keeps : (log : List Deed) (connection room : ℕ) {dm dp mode : L
     → logged log (line connection room (settingText dm dp mode)) ≡ log
 mode-again-keeps log connection room h one port least most word off present =
     ap (λ j. deedsOf j ++ log) (mode-again log connection room h one port least most word off present)
+
+-- ---- worked values
+pub lamps-worked : said [] (map (λ (s : Step). s .call) session) ≡ saidOf session
+unfolding decimal isNumber within isAddress towards exactLevel level turned onAir set-IR get-LED-LIGHTING set-LED-LIGHTING stopir request
+lamps-worked = refl

@@ -17,3 +17,4 @@ pub mod Spelled
 pub mod Commands
 pub mod Ramps
 pub mod Lamps
+pub mod Lighting

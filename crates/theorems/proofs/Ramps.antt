@@ -1,10 +1,11 @@
 -- One lamp as time passes: each sentence of request 3 of document 02 on levels is one theorem.
 use Prim.Native.Nat.{ℕ, suc, _+_, _-_, _*_, _≤_, _<_}
-use mathlib.Core.Path.{_≡_, refl, ap, _∙_}
+use mathlib.Core.Path.{_≡_, refl, sym, ap, _∙_}
+use mathlib.Core.Bool.{cond}
 use native.Mathlib.Nat.{mul-add, mul-zero, sub-self, mul-le-mul}
 use native.Mathlib.Omega.{arith}
-use borrow.Author.Tests.{ltb-true, ltb-false, le-ltb, eq-eqb, ne-eqb, eqb-true, eqb-false}
-use lib.Dec.{ltb, eqb}
+use borrow.Author.Tests.{ltb-true, ltb-false, leb-true, leb-false, le-ltb, eq-eqb, ne-eqb, eqb-true, eqb-false}
+use lib.Dec.{ltb, leb, eqb}
 use Rattle.laws.proofs.Choice.{by-test, cond-case}
 use Rattle.meaning.specs.Lamp.{Lamp, exactly, towards, exactLevel, level, turned}
 use Rattle.theorems.specs.Lamps.{Moved, LampWithin}
@@ -20,6 +21,21 @@ moved-up l up top = record { rises = up; falls = λ h. omega (arith, up (omega a
 
 moved-down : {from goal way to : ℕ} → goal ≤ from → (goal + way ≤ from → to + way ≡ from) → (from ≤ goal + way → to ≡ goal) → Moved from goal way to
 moved-down l down low = record { rises = λ h. omega (arith, down (omega arith)); falls = down; risen = λ g h. low (omega arith); fallen = λ _ h. low h }
+
+-- there is one such level
+pub moved-alone : {from goal way a b : ℕ} → Moved from goal way a → Moved from goal way b → a ≡ b
+moved-alone {from} {goal} {way} {a} {b} x y =
+    by-test (leb from goal)
+    (λ e.
+    let l = leb-true from goal e in
+    by-test (leb (from + way) goal)
+    (λ f. let m = leb-true (from + way) goal f in x .rises m ∙ sym (y .rises m))
+    (λ f. let m = leb-false (from + way) goal f in x .risen l (omega arith) ∙ sym (y .risen l (omega arith))))
+    (λ e.
+    let l = leb-false from goal e in
+    by-test (leb (goal + way) from)
+    (λ f. let m = leb-true (goal + way) from f in omega (arith, x .falls m, y .falls m))
+    (λ f. let m = leb-false (goal + way) from f in x .fallen (omega arith) (omega arith) ∙ sym (y .fallen (omega arith) (omega arith))))
 
 pub towards-moves : (from goal way : ℕ) → Moved from goal way (towards from goal way)
 unfolding towards
@@ -96,6 +112,18 @@ module _ (x : Lamp) (t : ℕ) (begun : x .since ≤ t) where
       ap (λ (k : ℕ). x .ramp * k) (omega arith) ∙ mul-add (x .ramp) (t - x .since) n in
       rw (ramped x t r, ramped x (t + n) r, way) (moved-on (x .from) (exactly (x .target)) (x .ramp * (t - x .since)) (x .ramp * n))
 
+  -- the same as an equation, whatever the ramp: who keeps the exact level and moves it on keeps what the log says
+  pub exact-moves : (n : ℕ) → exactLevel x (t + n) ≡ towards (exactLevel x t) (exactly (x .target)) (x .ramp * n)
+  exact-moves n =
+      by-test (eqb (x .ramp) 0)
+      (λ z.
+      let e = eqb-true (x .ramp) 0 z in
+      rw (instant x (t + n) e, instant x t e)
+      (sym (towards-moves (exactly (x .target)) (exactly (x .target)) (x .ramp * n) .risen (omega arith) (omega arith))))
+      (λ z.
+      let d = eqb-false (x .ramp) 0 z in
+      moved-alone (moves-exactly n (omega arith)) (towards-moves (exactLevel x t) (exactly (x .target)) (x .ramp * n)))
+
   -- the same in the percents that are shown: exactly r more, or r less, after 100,000 µs
   pub percents-risen : 1 ≤ x .ramp → exactLevel x t + exactly (x .ramp) ≤ exactly (x .target) → level x (t + 100000) ≡ level x t + x .ramp
   unfolding level
@@ -130,6 +158,14 @@ from-exact-level x target ramp t r =
         by-test (ltb from goal)
         (λ e. omega (arith, ltb-true from goal e, m .rises (omega (arith, ltb-true from goal e))))
         (λ e. omega (arith, m .falls (omega (arith, ltb-false from goal e))))
+
+-- and with ramp 0 it is there
+pub turned-exact : (x : Lamp) (target ramp t : ℕ) → exactLevel (turned x target ramp t) t ≡ cond (eqb ramp 0) (exactly target) (exactLevel x t)
+unfolding turned
+turned-exact x target ramp t =
+    by-test (eqb ramp 0)
+    (λ z. rw z (instant (turned x target ramp t) t (eqb-true ramp 0 z)))
+    (λ z. rw z (let d = eqb-false ramp 0 z in from-exact-level x target ramp t (omega arith)))
 
 -- ---- a lamp within the limits
 module _ {x : Lamp} {t : ℕ} (w : LampWithin x t) where

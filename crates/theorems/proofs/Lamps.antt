@@ -65,6 +65,12 @@ pub lamp-within : (h : List Call) (p : ℕ) → LampWithin (lampOf p (logOf h)) 
 lamp-within [] p = dark-within 0
 lamp-within (call ∷ h) p = did-lamp-within p (logOf h) call _ (did (logOf h) call) (lamp-within h p)
 
+-- the levels are those of the three connectors, in their order
+pub levels-are : (log : List Deed)
+    → levels log ≡ level (lampOf 1 log) (now log) ∷ level (lampOf 2 log) (now log) ∷ level (lampOf 3 log) (now log) ∷ []
+levels-are log = refl
+
+-- no level is above 100 percent, at any moment
 pub level-within : (h : List Call) (p t : ℕ) → level (lampOf p (logOf h)) t ≤ 100
 level-within h p t = level-most (lamp-within h p) t
 
@@ -75,7 +81,7 @@ levels-within h = go ports
     go [] = refl
     go (p ∷ l) = rw (le-leb (level (lampOf p (logOf h)) (now (logOf h))) 100 (level-within h p (now (logOf h)))) (go l)
 
--- ---- "0 where there is no lamp"
+-- ---- 0 where there is no lamp
 pub dark-level : (t : ℕ) → level dark t ≡ 0
 unfolding level exactLevel
 dark-level t = refl
@@ -98,6 +104,7 @@ did-no-lamp p log call ds (halts r c _ _ _) ih e = ih e
 did-no-lamp p log call ds (leaves c _ _) ih e = ih e
 did-no-lamp p log call ds (passes n _ _) ih e = ih e
 
+-- a connector that is not in LED_LIGHTING has no lamp, whatever it had before
 pub no-lamp : (h : List Call) (p : ℕ) → inLighting p (logOf h) ≡ false → lampOf p (logOf h) ≡ dark
 no-lamp [] p e = refl
 no-lamp (call ∷ h) p e = did-no-lamp p (logOf h) call _ (did (logOf h) call) (no-lamp h p) e
@@ -175,6 +182,7 @@ unlit-keeps p (setting q (lit target ramp) ∷ ds) log a =
 unlit-keeps p (switched q state ∷ ds) log a = unlit-keeps p ds log a
 unlit-keeps p (event x ∷ ds) log a = unlit-keeps p ds log a
 
+-- and it is made of nothing else
 pub last-lit-is-lamp : (log : List Deed) (p : ℕ) {x : Lamp} → LastLit log p x → lampOf p log ≡ x
 unfolding turned
 last-lit-is-lamp log p (never a) = ap (lampOf p) (sym (append-nil log)) ∙ unlit-keeps p log [] a
@@ -220,7 +228,7 @@ pub mode-again-keeps : (log : List Deed) (connection room : ℕ) {dm dp mode : L
 mode-again-keeps log connection room h one port least most word off present =
     ap (λ j. deedsOf j ++ log) (mode-again log connection room h one port least most word off present)
 
--- ---- worked values
+-- ---- worked values: what each call of the session is told, and the levels after it
 pub lamps-worked : said [] (map (λ (s : Step). s .call) session) ≡ saidOf session
 unfolding decimal isNumber within isAddress towards exactLevel level turned onAir set-IR get-LED-LIGHTING set-LED-LIGHTING stopir request
 lamps-worked = refl

@@ -37,6 +37,7 @@ moved-alone {from} {goal} {way} {a} {b} x y =
     (λ f. let m = leb-true (goal + way) from f in omega (arith, x .falls m, y .falls m))
     (λ f. let m = leb-false (goal + way) from f in x .fallen (omega arith) (omega arith) ∙ sym (y .fallen (omega arith) (omega arith))))
 
+-- and `towards` is it
 pub towards-moves : (from goal way : ℕ) → Moved from goal way (towards from goal way)
 unfolding towards
 towards-moves from goal way =
@@ -169,6 +170,7 @@ turned-exact x target ramp t =
 
 -- ---- a lamp within the limits
 module _ {x : Lamp} {t : ℕ} (w : LampWithin x t) where
+  -- no level is above 100 percent
   pub exact-most : (u : ℕ) → exactLevel x u ≤ exactly 100
   unfolding exactLevel
   exact-most u =

@@ -2,11 +2,11 @@
 use Prim.Native.Nat.{ℕ, _+_, _/_, _%_, _<_}
 use mathlib.Core.Path.{_≡_, refl, sym, ap, _∙_}
 use mathlib.Core.Bool.{Bool, true, false, not, _&&_, _||_, cond}
-use mathlib.Core.List.{List, [], _∷_, append-nil}
+use mathlib.Core.List.{List, [], _∷_, _++_, append-nil, append-assoc}
 use native.Mathlib.Omega.{arith}
-use borrow.Author.Tests.{eqb-true, ltb-true, leb-true, le-leb, le-ltb, not-false}
+use borrow.Author.Tests.{eqb-true, ltb-true, ltb-false, leb-true, le-leb, le-ltb, not-false}
 use lib.Dec.{eqb, ltb, leb}
-use lib.ListN.{drop}
+use lib.ListN.{length, drop}
 use Rattle.laws.specs.Checks.{between, oneOf}
 use Rattle.laws.specs.Lists.{all, same}
 use Rattle.laws.proofs.Checks.{one-of-all}
@@ -16,20 +16,21 @@ use Rattle.words.specs.Decimal.{decimal, threeDigits}
 use Rattle.words.specs.Digits.{isDigit}
 use Rattle.words.specs.Places.{connectors, relays}
 use Rattle.text.proofs.Decimals.{decimal-small}
-use Rattle.text.proofs.Behind.{digits-read, number-behind}
+use Rattle.text.specs.Number.{numberAt}
+use Rattle.text.proofs.Behind.{digits-read, number-behind, field-comma, field-behind}
 use Rattle.theorems.specs.Occasion.{unaddressed}
 use Rattle.theorems.specs.Occasion as occasion
 use Rattle.theorems.proofs.Occasions.{three-worth}
 use Rattle.request.specs.declared.Place.{Place}
 use Rattle.request.specs.declared.mode.Mode as mode
-use Rattle.request.specs.declared.mode.Mode.the-variants.{Ir, Sensor, IrBlaster}
+use Rattle.request.specs.declared.mode.Mode.the-variants.{Ir, Sensor, IrBlaster, LedLighting}
 use Rattle.request.specs.Mode.{mayHave, modeAt}
 use Rattle.logger.specs.declared.Device as device
 use Rattle.logger.specs.declared.Device.the-variants.{Ethernet, Infrared, Relays, End}
 use Rattle.logger.specs.declared.Heard.{Heard}
-use Rattle.logger.specs.declared.Heard.the-variants.{NotReply, State, Complete, Busy, Stop, Mode, Error, Version, Listed}
-use Rattle.logger.specs.Heard.{lineOf, writable, isConnector, isRelay, isNowhere, IsLine, Hears, heard, nothing}
-use Rattle.logger.specs.Guess.{valueAt, modeGuess, deviceGuess, stateOrStop, guessed, readReply}
+use Rattle.logger.specs.declared.Heard.the-variants.{NotReply, State, Complete, Busy, Stop, Mode, Error, Version, Listed, Lamp}
+use Rattle.logger.specs.Heard.{lineOf, writable, isConnector, isRelay, isNowhere, isLevel, IsLine, Hears, heard, nothing}
+use Rattle.logger.specs.Guess.{valueAt, modeGuess, deviceGuess, stateOrStop, levelRead, lampOrVersion, guessed, readReply}
 
 -- ---- numbers at a place of a line
 value-back : (s : List ℕ) (at n : ℕ) → drop at s ≡ decimal n → n < 1000000 → valueAt s at ≡ n
@@ -44,6 +45,13 @@ unfolding valueAt
 three-back s at n e h =
     let d : all isDigit (threeDigits n) ≡ true = rw (digit (n / 100), digit (n / 10), digit n) in
     rw (digits-read s at (threeDigits n) [] d (omega arith) e (omega arith) refl) (three-worth n h)
+
+-- a line's level, and behind its comma the target
+level-back : (s : List ℕ) (a : Place) (level target : ℕ) → drop 17 s ≡ decimal level ++ (44 ∷ decimal target) → level < 1000000
+    → target < 1000000 → levelRead s a (numberAt s 17) ≡ Lamp a level target
+level-back s a level target e h g =
+    rw (number-behind s 17 level (44 ∷ decimal target) e h refl, field-comma s 17 level (decimal target) e)
+    (ap (Lamp a level) (value-back s (17 + length (decimal level) + 1) target (field-behind s 17 level (decimal target) e) g))
 
 -- ---- a place of one digit each
 record OneDigit (n : ℕ) : Type 0 where
@@ -101,6 +109,12 @@ module _ (a : Place) (t : Small a) where
   mode-back Ir = rw (t .m .written, t .port .written, t .m .read, t .port .read)
   mode-back Sensor = rw (t .m .written, t .port .written, t .m .read, t .port .read)
   mode-back IrBlaster = rw (t .m .written, t .port .written, t .m .read, t .port .read)
+  mode-back LedLighting = rw (t .m .written, t .port .written, t .m .read, t .port .read)
+
+  lamp-back : (level target : ℕ) → level < 1000000 → target < 1000000 → guessed (lineOf (Lamp a level target)) ≡ Lamp a level target
+  unfolding lineOf guessed lampOrVersion
+  lamp-back level target h g =
+      rw (t .m .written, t .port .written, t .m .read, t .port .read) (level-back _ a level target (append-assoc (decimal level) (44 ∷ []) (decimal target)) h g)
 
   error-back : (n : ℕ) → n < 1000 → guessed (lineOf (Error n a)) ≡ Error n a
   unfolding lineOf guessed
@@ -108,7 +122,7 @@ module _ (a : Place) (t : Small a) where
       rw (t .m .written, t .port .written, t .m .read, t .port .read) (ap (λ (k : ℕ). Error k a) (three-back _ 8 n refl h))
 
 version-back : guessed (lineOf Version) ≡ Version
-unfolding lineOf guessed
+unfolding lineOf guessed lampOrVersion
 version-back = refl
 
 listed-back : (d : device.Device) → guessed (lineOf (Listed d)) ≡ Listed d
@@ -138,6 +152,17 @@ error-read n a =
     Back : Bool → Type 0
     Back may = may ≡ true → guessed (lineOf (Error n a)) ≡ Error n a
 
+-- and so are a lamp's
+level-few : (level target : ℕ) → isLevel level target ≡ true → (level < 1000000) × (target < 1000000)
+level-few level target =
+    cond-case Few (eqb target 0) _ _
+    (λ none e. (omega (arith, eqb-true level 0 e), omega (arith, eqb-true target 0 none)))
+    (λ _. cond-case Few (ltb 100 target) _ _ (λ _ e. not-both e refl)
+    (λ most e. (omega (arith, leb-true level 100 e), omega (arith, ltb-false 100 target most))))
+  where
+    Few : Bool → Type 0
+    Few may = may ≡ true → (level < 1000000) × (target < 1000000)
+
 pub guessed-back : (r : Heard) → writable r ≡ true → guessed (lineOf r) ≡ r
 unfolding writable
 guessed-back NotReply e = not-both e refl
@@ -156,6 +181,9 @@ guessed-back (Mode a m) e = mode-back a (connector-small a (and-left (isConnecto
 guessed-back (Error n a) e = error-read n a e
 guessed-back Version e = version-back
 guessed-back (Listed d) e = listed-back d
+guessed-back (Lamp a level target) e =
+    let few = level-few level target (and-right (isConnector a) (isLevel level target) e) in
+    lamp-back a (connector-small a (and-left (isConnector a) (isLevel level target) e)) level target (few .0) (few .1)
 
 -- ---- what is heard
 is-guessed : {s : List ℕ} {r : Heard} → IsLine s r → guessed s ≡ r

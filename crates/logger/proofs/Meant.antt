@@ -11,7 +11,7 @@ use Rattle.lines.specs.Cut.{whole, linesOf, streamOf}
 use Rattle.request.specs.declared.Fixed.the-variants.{Devices, Version}
 use Rattle.request.specs.Mode.{modeWord}
 use Rattle.reply.specs.declared.Reply.{Reply}
-use Rattle.reply.specs.declared.Reply.the-variants.{Fixed, Error, Mode, State, Complete, Busy, Stopped}
+use Rattle.reply.specs.declared.Reply.the-variants.{Fixed, Error, Mode, State, Complete, Busy, Stopped, Lamp}
 use Rattle.reply.specs.Reply.{addressText, replyText}
 use Rattle.logger.specs.declared.Heard.{Heard}
 use Rattle.logger.specs.Heard.{lineOf}
@@ -33,6 +33,7 @@ text-of (State place state) = one-line (addressText (bytes "state,") place) (dec
 text-of (Complete place id) = one-line (addressText (bytes "completeir,") place) (decimal id)
 text-of (Busy place id) = one-line (addressText (bytes "busyIR,") place) (decimal id)
 text-of (Stopped place) = refl
+text-of (Lamp place level target) = one-line (addressText (bytes "LED_LIGHTING,") place) (decimal level ++ bytes "," ++ decimal target)
 
 -- a reply of one line, without its CR
 pub line-is : (r : Reply) (h : Heard) → heardAs r ≡ h ∷ [] → withoutCr (replyText r) ≡ lineOf h

@@ -17,7 +17,7 @@ use Rattle.text.proofs.Decimals.{decimal-digits, decimal-most}
 use Rattle.meaning.specs.Line.{addressed}
 use Rattle.request.specs.declared.Place.{Place}
 use Rattle.request.specs.declared.mode.Mode as mode
-use Rattle.request.specs.declared.mode.Mode.the-variants.{Ir, Sensor, IrBlaster}
+use Rattle.request.specs.declared.mode.Mode.the-variants.{Ir, Sensor, IrBlaster, LedLighting}
 use Rattle.request.specs.Mode.{modeWord}
 use Rattle.lines.specs.Cut.{Divided, divided, whole, linesOf, noCr, streamOf}
 use Rattle.lines.specs.Cut as cut
@@ -25,19 +25,30 @@ use Rattle.lines.proofs.Cutting.{divided-one, lines-are}
 use Rattle.logger.specs.declared.Device as device
 use Rattle.logger.specs.declared.Device.the-variants.{Ethernet, Infrared, Relays, End}
 use Rattle.logger.specs.declared.Heard.{Heard}
-use Rattle.logger.specs.declared.Heard.the-variants.{NotReply, State, Complete, Busy, Stop, Mode, Error, Version, Listed}
+use Rattle.logger.specs.declared.Heard.the-variants.{NotReply, State, Complete, Busy, Stop, Mode, Error, Version, Listed, Lamp}
 use Rattle.logger.specs.Heard.{at, deviceLine, lineOf}
 
 -- ---- the line of a reply
 pub record Plain (s : List ℕ) : Type 0 where
   pub clear : all noCr s ≡ true
-  pub short : length s ≤ 73
+  pub short : length s ≤ 96
 
 high : (b : ℕ) → 48 ≤ b → noCr b ≡ true
 high b h = rw (ne-eqb b 13 (λ e. absurd (omega arith)))
 
 digits-clear : (n : ℕ) → all noCr (decimal n) ≡ true
 digits-clear n = all-weaker isDigit noCr (λ b e. high b (digit-range b e .0)) (decimal n) (decimal-digits n)
+
+number-short : (n : ℕ) → length (decimal n) ≤ 41
+number-short n = omega (arith, decimal-most n)
+
+-- a level, a comma and a target
+level-plain : (level target : ℕ) → (all noCr (decimal level ++ bytes "," ++ decimal target) ≡ true) × (length (decimal level ++ bytes "," ++ decimal target) ≤ 41)
+level-plain level target = (
+  all-append noCr (decimal level ++ bytes ",") (decimal target)
+      (all-append noCr (decimal level) (bytes ",") (digits-clear level) refl) (digits-clear target),
+  rw (length-append, length-append) (omega (arith, decimal-most level, decimal-most target)),
+)
 
 three-plain : (n : ℕ) → Plain (threeDigits n)
 three-plain n =
@@ -46,12 +57,12 @@ three-plain n =
       short = omega arith;
     }
 
--- a word of at most 11 bytes and m:p
+-- a word of at most 13 bytes and m:p
 record Addressed (word : String) (a : Place) : Type 0 where
   clear : all noCr (addressed word (a .m) (a .port)) ≡ true
-  short : length (addressed word (a .m) (a .port)) ≤ 52
+  short : length (addressed word (a .m) (a .port)) ≤ 54
 
-addressed-plain : (word : String) (a : Place) → all noCr (bytes word) ≡ true → length (bytes word) ≤ 11 → Addressed word a
+addressed-plain : (word : String) (a : Place) → all noCr (bytes word) ≡ true → length (bytes word) ≤ 13 → Addressed word a
 addressed-plain word a clear short =
     let named = all-append noCr (bytes word) (decimal (a .m)) clear (digits-clear (a .m)) in
     record {
@@ -62,8 +73,8 @@ addressed-plain word a clear short =
     }
 
 -- and what stands behind a comma
-at-plain : (word : String) (a : Place) (last : List ℕ) → all noCr (bytes word) ≡ true → length (bytes word) ≤ 11 → all noCr last ≡ true
-    → length last ≤ 20 → Plain (at word a last)
+at-plain : (word : String) (a : Place) (last : List ℕ) → all noCr (bytes word) ≡ true → length (bytes word) ≤ 13 → all noCr last ≡ true
+    → length last ≤ 41 → Plain (at word a last)
 at-plain word a last clear short ends few =
     let front = addressed-plain word a clear short in
     record {
@@ -71,10 +82,11 @@ at-plain word a last clear short ends few =
       short = rw length-append (omega (arith, front .short));
     }
 
-mode-plain : (m : mode.Mode) → (all noCr (modeWord m) ≡ true) × (length (modeWord m) ≤ 20)
+mode-plain : (m : mode.Mode) → (all noCr (modeWord m) ≡ true) × (length (modeWord m) ≤ 41)
 mode-plain Ir = (refl, omega arith)
 mode-plain Sensor = (refl, omega arith)
 mode-plain IrBlaster = (refl, omega arith)
+mode-plain LedLighting = (refl, omega arith)
 
 device-plain : (d : device.Device) → Plain (deviceLine d)
 device-plain Ethernet = record { clear = refl; short = omega arith }
@@ -85,9 +97,9 @@ device-plain End = record { clear = refl; short = omega arith }
 pub line-plain : (r : Heard) → Plain (lineOf r)
 unfolding lineOf
 line-plain NotReply = record { clear = refl; short = omega arith }
-line-plain (State a v) = at-plain "state," a (decimal v) refl (omega arith) (digits-clear v) (decimal-most v)
-line-plain (Complete a id) = at-plain "completeir," a (decimal id) refl (omega arith) (digits-clear id) (decimal-most id)
-line-plain (Busy a id) = at-plain "busyIR," a (decimal id) refl (omega arith) (digits-clear id) (decimal-most id)
+line-plain (State a v) = at-plain "state," a (decimal v) refl (omega arith) (digits-clear v) (number-short v)
+line-plain (Complete a id) = at-plain "completeir," a (decimal id) refl (omega arith) (digits-clear id) (number-short id)
+line-plain (Busy a id) = at-plain "busyIR," a (decimal id) refl (omega arith) (digits-clear id) (number-short id)
 line-plain (Stop a) =
     let front = addressed-plain "stopir," a refl (omega arith) in
     record { clear = front .clear; short = omega (arith, front .short) }
@@ -95,6 +107,9 @@ line-plain (Mode a m) = at-plain "IR," a (modeWord m) refl (omega arith) (mode-p
 line-plain (Error n a) = at-plain "ERR_" a (threeDigits n) refl (omega arith) (three-plain n .clear) (omega arith)
 line-plain Version = record { clear = refl; short = omega arith }
 line-plain (Listed d) = device-plain d
+line-plain (Lamp a level target) =
+    let last = level-plain level target in
+    at-plain "LED_LIGHTING," a (decimal level ++ bytes "," ++ decimal target) refl (omega arith) (last .0) (last .1)
 
 -- ---- the lines of a stream of replies
 clear-lines : (rs : List Heard) → all (all noCr) (map lineOf rs) ≡ true

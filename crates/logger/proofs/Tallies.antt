@@ -11,7 +11,7 @@ use lib.ListN.{length}
 use Rattle.laws.proofs.Choice.{by-test, not-both, and-left, and-right}
 use Rattle.request.specs.declared.Place.{Place}
 use Rattle.logger.specs.declared.Heard.{Heard}
-use Rattle.logger.specs.declared.Heard.the-variants.{NotReply, State, Complete, Busy, Stop, Mode, Error, Version, Listed}
+use Rattle.logger.specs.declared.Heard.the-variants.{NotReply, State, Complete, Busy, Stop, Mode, Error, Version, Listed, Lamp}
 use Rattle.logger.specs.declared.tally.Tally.{Tally}
 use Rattle.logger.specs.Tally.{samePlace, tells, tally, freshTally, mostLines, counted, SoundTally, talliedFrom, tallied, howMany, isReading, TallyOf}
 
@@ -38,6 +38,7 @@ tells-means place v h = (there h, λ e. rw (e, eq-eqb v v refl, eq-eqb (place .m
     there (Error number a) e = not-both e refl
     there Version e = not-both e refl
     there (Listed d) e = not-both e refl
+    there (Lamp a level target) e = not-both e refl
 
 pub fresh-sound : (place : Place) → SoundTally (freshTally place)
 fresh-sound place = record { some = omega arith; most = omega arith }

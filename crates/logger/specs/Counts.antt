@@ -6,8 +6,9 @@ use mathlib.Core.List.{List, [], _∷_}
 use Rattle.laws.specs.Bytes.{bytes}
 use Rattle.request.specs.declared.Place.{Place}
 use Rattle.request.specs.Place.{placeOf}
+use Rattle.request.specs.declared.mode.Mode.the-variants.{LedLighting}
 use Rattle.logger.specs.declared.Heard.{Heard}
-use Rattle.logger.specs.declared.Heard.the-variants.{NotReply, Complete, Error}
+use Rattle.logger.specs.declared.Heard.the-variants.{NotReply, Complete, Mode, Error, Lamp}
 use Rattle.logger.specs.Heard.{writable}
 
 -- a function summed over the numbers below n
@@ -45,4 +46,13 @@ rows =
     ∷ ("state,1:1,2" ⇢ NotReply)
     ∷ ("device,1,3 RELAY" ⇢ NotReply)
     ∷ ("state,1:1,00" ⇢ NotReply)
+    ∷ ("IR,1:1,LED_LIGHTING" ⇢ Mode (placeOf 1 1) LedLighting)
+    ∷ ("LED_LIGHTING,1:2,3,100" ⇢ Lamp (placeOf 1 2) 3 100)
+    ∷ ("LED_LIGHTING,1:3,0,0" ⇢ Lamp (placeOf 1 3) 0 0)
+    ∷ ("LED_LIGHTING,1:1,5,0" ⇢ NotReply)
+    ∷ ("LED_LIGHTING,1:1,5,101" ⇢ NotReply)
+    ∷ ("LED_LIGHTING,1:1,101,5" ⇢ NotReply)
+    ∷ ("LED_LIGHTING,1:1,5,07" ⇢ NotReply)
+    ∷ ("LED_LIGHTING,1:1,5,7," ⇢ NotReply)
+    ∷ ("LED_LIGHTING,2:1,5,7" ⇢ NotReply)
     ∷ []

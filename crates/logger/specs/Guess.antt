@@ -8,6 +8,7 @@ use lib.ListN.{length, take, getD}
 use Rattle.laws.specs.Checks.{_⇒_, first}
 use Rattle.laws.specs.Lists.{same}
 use Rattle.text.specs.Number.{numberAt}
+use Rattle.text.specs.Field.{afterComma}
 use Rattle.text.specs.declared.number.Number.{Number}
 use Rattle.text.specs.declared.number.Number.the-variants as number
 use Rattle.request.specs.declared.Place.{Place}
@@ -18,7 +19,7 @@ use Rattle.request.specs.Mode.{modeAt}
 use Rattle.logger.specs.declared.Device.{Device}
 use Rattle.logger.specs.declared.Device.the-variants.{Ethernet, Infrared, Relays, End}
 use Rattle.logger.specs.declared.Heard.{Heard}
-use Rattle.logger.specs.declared.Heard.the-variants.{NotReply, State, Complete, Busy, Stop, Mode, Error, Version, Listed}
+use Rattle.logger.specs.declared.Heard.the-variants.{NotReply, State, Complete, Busy, Stop, Mode, Error, Version, Listed, Lamp}
 use Rattle.logger.specs.Heard.{lineOf, writable}
 
 -- a digit is the lower half of its byte
@@ -54,6 +55,16 @@ deviceGuess s = first
 unfoldable pub stateOrStop : List ℕ → Heard
 stateOrStop s = cond (eqb (getD s 2 0) 97) (State (placeAt s 6) (valueAt s 10)) (Stop (placeAt s 7))
 
+-- the level and, behind its comma, the target
+abbrev pub levelRead : List ℕ → Place → Number → Heard
+levelRead s a number.Missing = NotReply
+levelRead s a (number.TooLong end) = NotReply
+levelRead s a (number.Value level end) = Lamp a level (valueAt s (afterComma s end))
+
+-- 69 is E
+unfoldable pub lampOrVersion : List ℕ → Heard
+lampOrVersion s = cond (eqb (getD s 1 0) 69) (levelRead s (placeAt s 13) (numberAt s 17)) Version
+
 -- by the first byte: 115, 69, 99, 98, 73, 100 and 101 are s, E, c, b, I, d and e
 unfoldable pub guessed : List ℕ → Heard
 guessed s = first
@@ -64,7 +75,7 @@ guessed s = first
     ∷ (eqb (getD s 0 0) 73 ⇒ modeGuess s)
     ∷ (eqb (getD s 0 0) 100 ⇒ Listed (deviceGuess s))
     ∷ (eqb (getD s 0 0) 101 ⇒ Listed End)
-    ∷ []) Version
+    ∷ []) (lampOrVersion s)
 
 -- what is read: the guess, if a hub can write it and this is its line
 unfoldable pub readReply : List ℕ → Heard

@@ -6,7 +6,7 @@ use Prim.Native.String.{String}
 use mathlib.Core.Path.{_≡_}
 use mathlib.Core.Bool.{Bool, true, false, not, _&&_, _||_}
 use mathlib.Core.List.{List, [], _∷_, _++_}
-use lib.Dec.{eqb, leb}
+use lib.Dec.{eqb, ltb, leb}
 use Rattle.laws.specs.Bytes.{bytes}
 use Rattle.laws.specs.Checks.{_⇒_, first, between, oneOf}
 use Rattle.words.specs.Decimal.{decimal, threeDigits}
@@ -19,7 +19,7 @@ use Rattle.request.specs.Mode.{modeWord, mayHave}
 use Rattle.logger.specs.declared.Device.{Device}
 use Rattle.logger.specs.declared.Device.the-variants.{Ethernet, Infrared, Relays, End}
 use Rattle.logger.specs.declared.Heard.{Heard}
-use Rattle.logger.specs.declared.Heard.the-variants.{NotReply, State, Complete, Busy, Stop, Mode, Error, Version, Listed}
+use Rattle.logger.specs.declared.Heard.the-variants.{NotReply, State, Complete, Busy, Stop, Mode, Error, Version, Listed, Lamp}
 
 -- ---- the line of each, without its CR: document 01's table
 
@@ -43,6 +43,7 @@ lineOf (Mode a mode) = at "IR," a (modeWord mode)
 lineOf (Error number a) = at "ERR_" a (threeDigits number)
 lineOf Version = bytes "LH-01"
 lineOf (Listed d) = deviceLine d
+lineOf (Lamp a level target) = at "LED_LIGHTING," a (decimal level ++ bytes "," ++ decimal target)
 
 -- ---- those that a hub can write
 
@@ -68,6 +69,10 @@ isError n a = first
     ∷ (eqb n 14 ⇒ not (eqb (a .port) 3))
     ∷ []) (oneOf occasion.addressed n)
 
+-- "a target of 1 to 100"; "a connector entering this mode is at 0 with target 0"
+abbrev pub isLevel : ℕ → ℕ → Bool
+isLevel level target = first ((eqb target 0 ⇒ eqb level 0) ∷ (ltb 100 target ⇒ false) ∷ []) (leb level 100)
+
 unfoldable pub writable : Heard → Bool
 writable NotReply = false
 writable (State a state) = leb state 1 && (isRelay a || isConnector a)
@@ -78,6 +83,7 @@ writable (Mode a mode) = isConnector a && mayHave (a .port) mode
 writable (Error number a) = isError number a
 writable Version = true
 writable (Listed d) = true
+writable (Lamp a level target) = isConnector a && isLevel level target
 
 -- ---- what a line is
 

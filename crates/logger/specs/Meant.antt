@@ -6,7 +6,7 @@ use Rattle.reply.specs.declared.Reply.{Reply}
 use Rattle.reply.specs.declared.Reply.the-variants as reply
 use Rattle.logger.specs.declared.Device.the-variants.{Ethernet, Infrared, Relays, End}
 use Rattle.logger.specs.declared.Heard.{Heard}
-use Rattle.logger.specs.declared.Heard.the-variants.{State, Complete, Busy, Stop, Mode, Error, Version, Listed}
+use Rattle.logger.specs.declared.Heard.the-variants.{State, Complete, Busy, Stop, Mode, Error, Version, Listed, Lamp}
 
 abbrev pub fixedAs : Fixed → List Heard
 fixedAs fixed.Devices = Listed Ethernet ∷ Listed Infrared ∷ Listed Relays ∷ Listed End ∷ []
@@ -20,3 +20,4 @@ heardAs (reply.State place state) = State place state ∷ []
 heardAs (reply.Complete place id) = Complete place id ∷ []
 heardAs (reply.Busy place id) = Busy place id ∷ []
 heardAs (reply.Stopped place) = Stop place ∷ []
+heardAs (reply.Lamp place level target) = Lamp place level target ∷ []

@@ -8,7 +8,7 @@ use lib.Dec.{eqb}
 use Rattle.laws.specs.Checks.{_⇒_, first}
 use Rattle.request.specs.declared.Place.{Place}
 use Rattle.logger.specs.declared.Heard.{Heard}
-use Rattle.logger.specs.declared.Heard.the-variants.{NotReply, State, Complete, Busy, Stop, Mode, Error, Version, Listed}
+use Rattle.logger.specs.declared.Heard.the-variants.{NotReply, State, Complete, Busy, Stop, Mode, Error, Version, Listed, Lamp}
 use Rattle.logger.specs.declared.tally.Tally.{Tally}
 use Rattle.logger.specs.declared.tally.Average.{Average}
 use Rattle.logger.specs.declared.tally.Average.the-variants.{NoReading, Of}
@@ -27,6 +27,7 @@ tells place state (Mode a mode) = false
 tells place state (Error number a) = false
 tells place state Version = false
 tells place state (Listed d) = false
+tells place state (Lamp a level target) = false
 
 abbrev pub tally : Place → ℕ → ℕ → ℕ → Tally
 tally place readings ones others = record { place = place; readings = readings; ones = ones; others = others }

@@ -3,11 +3,12 @@ use crate::Device;
 use crate::Heard;
 use request::Place;
 use request::mode::ModeRead;
+use text::field::after_comma;
 use text::field::byte_at;
 use text::number::Number;
 ghost use mathlib.Core.Path.{_≡_};
 ghost use Prim.Native.Nat.{_≤_};
-ghost use Rattle.logger.specs.Guess.{digitAt, placeAt, valueAt, modeGuess, deviceGuess, stateOrStop, guessed};
+ghost use Rattle.logger.specs.Guess.{digitAt, placeAt, valueAt, modeGuess, deviceGuess, stateOrStop, lampOrVersion, guessed};
 
 // The digit at a place: the lower half of its byte.
 fn digit_at(s: &[u8], at: usize) -> u64
@@ -18,7 +19,7 @@ fn digit_at(s: &[u8], at: usize) -> u64
 
 // m:p, of one digit each.
 fn place_at(s: &[u8], at: usize) -> Place
-    requires { ⌜ at ≤ 11 ⌝ }
+    requires { ⌜ at ≤ 13 ⌝ }
     ensures { λ r. ⌜ r ≡ placeAt (now (s .entry)) at ⌝ }
 {
     Place {
@@ -72,6 +73,24 @@ fn state_or_stop(s: &[u8]) -> Heard
     Heard::Stop(place_at(s, 7))
 }
 
+// LED_LIGHTING,m:p,level,target or LH-01
+fn lamp_or_version(s: &[u8]) -> Heard
+    ensures { λ r. ⌜ r ≡ lampOrVersion (now (s .entry)) ⌝ }
+{
+    if byte_at(s, 1) != b'E' {
+        return Heard::Version;
+    }
+    match text::number::number_at(s, 17) {
+        Number::Missing => Heard::NotReply,
+        Number::TooLong(_) => Heard::NotReply,
+        Number::Value(level, end) => Heard::Lamp(
+            place_at(s, 13),
+            level,
+            value_at(s, after_comma(s, end)),
+        ),
+    }
+}
+
 // The reply that a line is, if it is one.
 pub fn guessed(s: &[u8]) -> Heard
     ensures { λ r. ⌜ r ≡ guessed (now (s .entry)) ⌝ }
@@ -98,5 +117,5 @@ pub fn guessed(s: &[u8]) -> Heard
     if b == b'e' {
         return Heard::Listed(Device::End);
     }
-    Heard::Version
+    lamp_or_version(s)
 }

@@ -27,6 +27,8 @@ pub enum Heard {
     Error(u64, Place),
     Version,
     Listed(Device),
+    // LED_LIGHTING,m:p,level,target
+    Lamp(Place, u64, u64),
 }
 
 mod guess;

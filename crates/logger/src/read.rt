@@ -62,6 +62,14 @@ fn is_line(line: &[u8], h: Heard) -> bool
         Heard::Error(number, place) => is_reply(line, Reply::Error { number, place }),
         Heard::Version => is_word(line, b"LH-01"),
         Heard::Listed(device) => is_device(line, device),
+        Heard::Lamp(place, level, target) => is_reply(
+            line,
+            Reply::Lamp {
+                place,
+                level,
+                target,
+            },
+        ),
     }
 }
 

@@ -3,10 +3,13 @@ use crate::Heard;
 use request::Place;
 ghost use mathlib.Core.Path.{_≡_};
 ghost use Rattle.laws.specs.Checks.{oneOf};
-ghost use Rattle.logger.specs.Heard.{isPortOf, isConnector, isRelay, isNowhere, isError, writable};
+ghost use Rattle.logger.specs.Heard.{isPortOf, isConnector, isRelay, isNowhere, isError, isLevel, writable};
 
 // The greatest id of a command.
 const MOST_ID: u64 = 65535;
+
+// The greatest level and target of a lamp.
+const MOST_PERCENT: u64 = 100;
 
 // 0:0, the place of an error that names none.
 fn is_nowhere(a: Place) -> bool
@@ -76,6 +79,19 @@ fn is_error(n: u64, a: Place) -> bool
     one_of(&[13, 14, 18, 23, 28, 29, 4, 5, 6, 7, 9, 10, 20, 21, 22], n)
 }
 
+// Whether a lamp can be at this level with this target.
+fn is_level(level: u64, target: u64) -> bool
+    ensures { λ r. ⌜ r ≡ isLevel level target ⌝ }
+{
+    if target == 0 {
+        return level == 0;
+    }
+    if MOST_PERCENT < target {
+        return false;
+    }
+    level <= MOST_PERCENT
+}
+
 // Whether a hub can write this reply.
 pub fn writable(h: Heard) -> bool
     ensures { λ r. ⌜ r ≡ writable h ⌝ }
@@ -113,5 +129,11 @@ pub fn writable(h: Heard) -> bool
         Heard::Error(n, a) => is_error(n, a),
         Heard::Version => true,
         Heard::Listed(_) => true,
+        Heard::Lamp(a, level, target) => {
+            if is_connector(a) {
+                return is_level(level, target);
+            }
+            false
+        }
     }
 }

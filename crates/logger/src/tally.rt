@@ -46,6 +46,7 @@ fn tells(place: Place, heard: Heard, state: u64) -> bool
         Heard::Error(_, _) => false,
         Heard::Version => false,
         Heard::Listed(_) => false,
+        Heard::Lamp(_, _, _) => false,
     }
 }
 

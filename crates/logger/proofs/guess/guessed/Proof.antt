@@ -126,19 +126,24 @@ returns-7 c =
       eq-eqb _ _ (c .if7 .taken),
     )
 
+lamp-or-version-requires : tie.Need-lamp-or-version-requires
+lamp-or-version-requires c κs = search needs
+
 returns-8 : tie.Need-returns-8
 unfolding guessed
 returns-8 c =
-    let d = c .before .before .before .before in
+    let b = c .before in
+    let d = b .before .before .before .before in
     rw (
       ← d .before .before .before .byte-at .ensures,
       ne-eqb _ _ (d .before .before .if1 .left),
       ne-eqb _ _ (d .before .if2 .left),
       ne-eqb _ _ (d .if3 .left),
-      ne-eqb _ _ (c .before .before .before .if4 .left),
-      ne-eqb _ _ (c .before .before .if5 .left),
-      ne-eqb _ _ (c .before .if6 .left),
-      ne-eqb _ _ (c .if7 .left),
+      ne-eqb _ _ (b .before .before .before .if4 .left),
+      ne-eqb _ _ (b .before .before .if5 .left),
+      ne-eqb _ _ (b .before .if6 .left),
+      ne-eqb _ _ (b .if7 .left),
+      c .lamp-or-version .ensures,
     )
 
 pub guessed-spec : {M : Type 1} → statement M
@@ -162,4 +167,5 @@ guessed-spec =
     device-guess-requires
     returns-6
     returns-7
+    lamp-or-version-requires
     returns-8)

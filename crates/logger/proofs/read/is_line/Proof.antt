@@ -61,6 +61,12 @@ enum-known-h-7 c = search needs
 is-device-requires : tie.Need-is-device-requires
 is-device-requires c κs = search needs
 
+enum-known-h-8 : tie.Need-enum-known-h-8
+enum-known-h-8 c = search needs
+
+is-reply-requires-7 : tie.Need-is-reply-requires-7
+is-reply-requires-7 c κs = search needs
+
 returns : tie.Need-returns
 unfolding writable
 returns c = not-both (c .before .before .before .pre) (rw (c .enum-told .given .1))
@@ -91,6 +97,9 @@ returns-9 : tie.Need-returns-9
 unfolding lineOf
 returns-9 c = rw (c .before .before .h7 .given .1) (c .is-device .ensures)
 
+returns-10 : tie.Need-returns-10
+returns-10 c = rw (c .before .before .h8 .given .1) (c .is-reply7 .ensures ∙ rw (line-is _ _ refl))
+
 pub is-line-spec : {M : Type 1} → statement M
 is-line-spec =
     tie.close
@@ -113,6 +122,8 @@ is-line-spec =
     is-word-requires
     enum-known-h-7
     is-device-requires
+    enum-known-h-8
+    is-reply-requires-7
     returns
     returns-2
     returns-3
@@ -121,4 +132,5 @@ is-line-spec =
     returns-6
     returns-7
     returns-8
-    returns-9)
+    returns-9
+    returns-10)

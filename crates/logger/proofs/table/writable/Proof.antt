@@ -82,48 +82,67 @@ enum-told-2 c = search needs
 enum-told-3 : tie.Need-enum-told-3
 enum-told-3 c = search needs
 
+enum-known-h-7 : tie.Need-enum-known-h-7
+enum-known-h-7 c = search needs
+
+is-connector-requires-6 : tie.Need-is-connector-requires-6
+is-connector-requires-6 c κs = search needs
+
+is-level-requires : tie.Need-is-level-requires
+is-level-requires c κs = search needs
+
 returns-6 : tie.Need-returns-6
 unfolding writable
-returns-6 c = rw (c .enum-told .given .1)
+returns-6 c =
+    let b = c .before .before in
+    rw (b .before .before .h7 .given .1, sym (b .is-connector6 .ensures) ∙ c .before .if6 .taken) (c .is-level .ensures)
 
 returns-7 : tie.Need-returns-7
 unfolding writable
-returns-7 c =
-    let h = c .before .before .before .before .before .h in
-    rw (h .given .1, le-leb (h .given .0 .1 .0) 1 (omega arith), sym (c .before .before .is-relay .ensures) ∙ c .before .if2 .left)
-    (c .is-connector .ensures)
+returns-7 c = rw (c .enum-told .given .1)
 
 returns-8 : tie.Need-returns-8
 unfolding writable
 returns-8 c =
-    let h = c .before .before .before .h2 in
-    rw (h .given .1, le-leb (h .given .0 .1 .0) 65535 (omega arith)) (c .is-connector2 .ensures)
+    let h = c .before .before .before .before .before .h in
+    rw (h .given .1, le-leb (h .given .0 .1 .0) 1 (omega arith), sym (c .before .before .is-relay .ensures) ∙ c .before .if2 .left)
+    (c .is-connector .ensures)
 
 returns-9 : tie.Need-returns-9
 unfolding writable
 returns-9 c =
-    let h = c .before .before .before .h3 in
-    rw (h .given .1, le-leb (h .given .0 .1 .0) 65535 (omega arith)) (c .is-connector3 .ensures)
+    let h = c .before .before .before .h2 in
+    rw (h .given .1, le-leb (h .given .0 .1 .0) 65535 (omega arith)) (c .is-connector2 .ensures)
 
 returns-10 : tie.Need-returns-10
 unfolding writable
-returns-10 c = rw (c .before .before .h4 .given .1) (c .is-connector4 .ensures)
+returns-10 c =
+    let h = c .before .before .before .h3 in
+    rw (h .given .1, le-leb (h .given .0 .1 .0) 65535 (omega arith)) (c .is-connector3 .ensures)
 
 returns-11 : tie.Need-returns-11
 unfolding writable
-returns-11 c = rw (c .before .before .before .h5 .given .1, sym (c .before .is-connector5 .ensures) ∙ c .if5 .left)
+returns-11 c = rw (c .before .before .h4 .given .1) (c .is-connector4 .ensures)
 
 returns-12 : tie.Need-returns-12
 unfolding writable
-returns-12 c = rw (c .before .before .h6 .given .1) (c .is-error .ensures)
+returns-12 c = rw (c .before .before .before .h5 .given .1, sym (c .before .is-connector5 .ensures) ∙ c .if5 .left)
 
 returns-13 : tie.Need-returns-13
 unfolding writable
-returns-13 c = rw (c .enum-told2 .given .1)
+returns-13 c = rw (c .before .before .h6 .given .1) (c .is-error .ensures)
 
 returns-14 : tie.Need-returns-14
 unfolding writable
-returns-14 c = rw (c .enum-told3 .given .1)
+returns-14 c = rw (c .enum-told2 .given .1)
+
+returns-15 : tie.Need-returns-15
+unfolding writable
+returns-15 c = rw (c .enum-told3 .given .1)
+
+returns-16 : tie.Need-returns-16
+unfolding writable
+returns-16 c = rw (c .before .before .before .h7 .given .1, sym (c .before .is-connector6 .ensures) ∙ c .if6 .left)
 
 pub writable-spec : {M : Type 1} → statement M
 writable-spec =
@@ -151,6 +170,9 @@ writable-spec =
     is-error-requires
     enum-told-2
     enum-told-3
+    enum-known-h-7
+    is-connector-requires-6
+    is-level-requires
     returns-6
     returns-7
     returns-8
@@ -159,4 +181,6 @@ writable-spec =
     returns-11
     returns-12
     returns-13
-    returns-14)
+    returns-14
+    returns-15
+    returns-16)

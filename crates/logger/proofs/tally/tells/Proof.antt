@@ -5,85 +5,71 @@ use borrow.Author.Needs.{needs}
 use Rattle.logger.proofs.tally.tells.Statement.{statement}
 use Rattle.logger.proofs.tally.tells.Tie as tie
 
--- src/tally.rt:35:28
 enum-told : tie.Need-enum-told
 enum-told c = search needs
 
--- src/tally.rt:36:22
 enum-known-heard : tie.Need-enum-known-heard
 enum-known-heard c = search needs
 
--- src/tally.rt:38:17
 returns : tie.Need-returns
 returns c = rw (c .before .before .heard .given .1, ne-eqb _ _ (c .if1 .taken))
 
--- src/tally.rt:40:13
 same-place-requires : tie.Need-same-place-requires
 same-place-requires c κs = search needs
 
--- src/tally.rt:42:34
 enum-told-2 : tie.Need-enum-told-2
 enum-told-2 c = search needs
 
--- src/tally.rt:43:30
 enum-told-3 : tie.Need-enum-told-3
 enum-told-3 c = search needs
 
--- src/tally.rt:44:27
 enum-told-4 : tie.Need-enum-told-4
 enum-told-4 c = search needs
 
--- src/tally.rt:45:30
 enum-told-5 : tie.Need-enum-told-5
 enum-told-5 c = search needs
 
--- src/tally.rt:46:31
 enum-told-6 : tie.Need-enum-told-6
 enum-told-6 c = search needs
 
--- src/tally.rt:47:27
 enum-told-7 : tie.Need-enum-told-7
 enum-told-7 c = search needs
 
--- src/tally.rt:48:29
 enum-told-8 : tie.Need-enum-told-8
 enum-told-8 c = search needs
 
--- src/tally.rt:31:1
+enum-told-9 : tie.Need-enum-told-9
+enum-told-9 c = search needs
+
 returns-2 : tie.Need-returns-2
 returns-2 c = search needs
 
--- src/tally.rt:31:1
 returns-3 : tie.Need-returns-3
 returns-3 c = c .same-place .ensures ∙ rw (c .before .before .before .heard .given .1, eq-eqb _ _ (c .before .if1 .left))
 
--- src/tally.rt:31:1
 returns-4 : tie.Need-returns-4
 returns-4 c = search needs
 
--- src/tally.rt:31:1
 returns-5 : tie.Need-returns-5
 returns-5 c = search needs
 
--- src/tally.rt:31:1
 returns-6 : tie.Need-returns-6
 returns-6 c = search needs
 
--- src/tally.rt:31:1
 returns-7 : tie.Need-returns-7
 returns-7 c = search needs
 
--- src/tally.rt:31:1
 returns-8 : tie.Need-returns-8
 returns-8 c = search needs
 
--- src/tally.rt:31:1
 returns-9 : tie.Need-returns-9
 returns-9 c = search needs
 
--- src/tally.rt:31:1
 returns-10 : tie.Need-returns-10
 returns-10 c = search needs
+
+returns-11 : tie.Need-returns-11
+returns-11 c = search needs
 
 pub tells-spec : {M : Type 1} → statement M
 tells-spec =
@@ -100,6 +86,7 @@ tells-spec =
     enum-told-6
     enum-told-7
     enum-told-8
+    enum-told-9
     returns-2
     returns-3
     returns-4
@@ -108,4 +95,5 @@ tells-spec =
     returns-7
     returns-8
     returns-9
-    returns-10)
+    returns-10
+    returns-11)

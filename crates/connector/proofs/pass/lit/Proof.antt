@@ -10,7 +10,7 @@ unfolding passingLamp
 returns c = rw (eq-eqb _ _ (c .if1 .taken))
 
 passed-requires : tie.Need-passed-requires
-passed-requires c κs = (c .before .pre .0 .lights, c .before .pre .1)
+passed-requires c κs = (c .before .before .before .pre .0 .lights, c .before .before .before .pre .1)
 
 with-lamp-requires : tie.Need-with-lamp-requires
 with-lamp-requires c κs = search needs

@@ -1,5 +1,7 @@
 -- `connector::pass::pass` meets its contract.
+use mathlib.Core.Path.{sym, ap, _∙_}
 use native.Mathlib.Omega.{arith}
+use Rattle.connector.specs.Pass.{passingSending}
 use borrow.Author.Needs.{needs}
 use Rattle.connector.proofs.pass.pass.Statement.{statement}
 use Rattle.connector.proofs.pass.pass.Tie as tie
@@ -39,7 +41,9 @@ lit-requires : tie.Need-lit-requires
 lit-requires c κs = search needs
 
 returns : tie.Need-returns
-returns c = rw (c .before .enum-told .given .1) (c .lit .ensures)
+returns c =
+    let args = c .before .before .before .args in
+    c .lit .ensures ∙ ap (λ s. passingSending (args .c) (args .place) (args .wait .0) s) (sym (c .before .enum-told .given .1))
 
 returns-2 : tie.Need-returns-2
 returns-2 c =

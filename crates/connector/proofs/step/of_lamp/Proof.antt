@@ -24,7 +24,7 @@ fails-requires-2 c κs = search needs
 
 returns-2 : tie.Need-returns-2
 unfolding ofLamp
-returns-2 c = rw (c .fails2 .ensures)
+returns-2 c = rw (ap not (sym (c .before .before .before .before .is-lighting .ensures)) ∙ c .before .before .before .if1 .left, c .before .before .if2 .taken, c .fails2 .ensures, c .before .nowhere .ensures)
 
 returns-3 : tie.Need-returns-3
 unfolding ofLamp

@@ -1,4 +1,4 @@
--- What the hub answers the calls beside lines, and what it becomes, is what they make of what is known; and its carriers.
+-- What the hub answers the calls beside lines, and what it becomes, is what they make of what is known; and its carriers and levels.
 use Prim.Native.Nat.{ℕ, suc, _+_, _-_, _<_}
 use mathlib.Core.Path.{_≡_, refl, sym, ap, _∙_, subst}
 use mathlib.Core.Bool.{Bool, true, false, cond, not}
@@ -18,7 +18,10 @@ use Rattle.request.specs.declared.Place.{Place}
 use Rattle.request.specs.Mode.{isSensor}
 use Rattle.request.specs.Place.{placeOf, connectorIn}
 use Rattle.meaning.specs.Time.{Transmission, complete, carrier}
+use Rattle.meaning.specs.Lamp.{level}
 use Rattle.meaning.specs.Log.{until}
+use Rattle.lamp.specs.Lamp.{percentOf}
+use Rattle.lamp.proofs.Meaning.{percent-shown}
 use Rattle.waveform.proofs.Paced.{complete-later}
 use Rattle.connector.specs.declared.Connector.{Connector}
 use Rattle.connector.specs.declared.Completion.{Completion}
@@ -32,12 +35,12 @@ use Rattle.connector.specs.Reading.{readingStep}
 use Rattle.hub.specs.declared.Hub.{Hub}
 use Rattle.hub.specs.Record.{connectorAt, keptAt}
 use Rattle.hub.specs.Line.{refusal, leaving, placed}
-use Rattle.hub.specs.Calls.{readingCall, closedHub, carriersOf}
+use Rattle.hub.specs.Calls.{readingCall, closedHub, carriersOf, levelsOf}
 use Rattle.hub.specs.Completions.{ordered, noCompletion, completionsOf}
 use Rattle.hub.specs.Wait.{passingAt, completed, waitedHub}
 use Rattle.history.specs.Run.{listed}
 use Rattle.shown.proofs.Known.{Known, withSending, changedAt, readAs, readingSaid}
-use Rattle.shown.proofs.Shown.{shown, FitFor, HeldIn, closed-shown, passed-shown, carrier-shown}
+use Rattle.shown.proofs.Shown.{shown, FitFor, Fits, HeldIn, lamp-shown, closed-shown, passed-shown, carrier-shown}
 use Rattle.history.proofs.Stepping.{reading-steps}
 use Rattle.history.proofs.Agrees.{each-slot, each-gathered, hubOf, Stored, Means, unmoved, means-alike, connector-at, keep-at}
 use Rattle.history.proofs.Joining.{due, completions}
@@ -65,7 +68,7 @@ slot-place slot h =
     let inside : ltb slot connectors ≡ true = lt-ltb slot connectors h in
     rw (inside, add-one)
 
-module _ (t : ℕ) (K : ℕ → Known) (R : ℕ → ℕ) (fit : (p : ℕ) → FitFor t (K p .sending)) where
+module _ (t : ℕ) (K : ℕ → Known) (R : ℕ → ℕ) (fit : (p : ℕ) → Fits t (K p)) where
   -- the hub that shows what is known
   abbrev hub : Hub
   hub = hubOf t K R
@@ -95,6 +98,16 @@ module _ (t : ℕ) (K : ℕ → Known) (R : ℕ → ℕ) (fit : (p : ℕ) → Fi
       (each-gathered (λ slot. doneOf (passingAt (hub .connectors) n slot)) (due t K n) 0 connectors
       (λ slot h. slot-due n slot (omega arith)))
 
+  -- ---- the levels
+  -- the hub's levels are those of the lamps
+  pub levels-shown : levelsOf hub ≡ map (λ p. level (K p .lamp) t) ports
+  levels-shown =
+      each-slot (λ slot. percentOf (connectorAt hub slot .lamp)) (λ slot. level (K (suc slot) .lamp) t)
+      (λ slot h.
+      ap (λ (c : Connector). percentOf (c .lamp)) (connector-at t K R slot h)
+      ∙ ap percentOf (lamp-shown t (K (suc slot))) ∙ percent-shown (K (suc slot) .lamp) t)
+      ∙ sym (made-next (λ p. level (K p .lamp) t) 0 connectors)
+
   module _ (store : List ℕ) (st : Stored store t K) where
     -- what is kept stays kept while it is on air
     held-later : (kept : List ℕ) (n : ℕ) (o : Option Transmission) → FitFor t o → HeldIn kept (until t o) → HeldIn kept (until (t + n) o)
@@ -112,7 +125,7 @@ module _ (t : ℕ) (K : ℕ → Known) (R : ℕ → ℕ) (fit : (p : ℕ) → Fi
     stored-later n =
         record {
           size = st .size;
-          held = λ slot h. held-later (keptAt store slot) n (K (suc slot) .sending) (fit (suc slot)) (st .held slot h);
+          held = λ slot h. held-later (keptAt store slot) n (K (suc slot) .sending) (fit (suc slot) .sends) (st .held slot h);
         }
 
     -- ---- a closing
@@ -172,5 +185,5 @@ module _ (t : ℕ) (K : ℕ → Known) (R : ℕ → ℕ) (fit : (p : ℕ) → Fi
         each-slot (λ slot. carried.carrierOf (keptAt store slot) (connectorAt hub slot .sending)) (λ slot. holds (λ s. carrier s t) (until t (K (suc slot) .sending)))
         (λ slot h.
         ap (λ (c : Connector). carried.carrierOf (keptAt store slot) (c .sending)) (connector-at t K R slot h)
-        ∙ carrier-shown (keptAt store slot) t (K (suc slot)) (fit (suc slot)) (st .held slot h))
+        ∙ carrier-shown (keptAt store slot) t (K (suc slot)) (fit (suc slot) .sends) (st .held slot h))
         ∙ sym (made-next (λ p. holds (λ s. carrier s t) (until t (K p .sending))) 0 connectors)

@@ -30,15 +30,14 @@ use Rattle.history.specs.Run.{Called, called, run}
 use Rattle.history.specs.Waiting.{movedBy, Reached, reached, at, afterwards, Composes, ChangesNothing}
 use Rattle.reads.proofs.Cursor.{modeIn}
 use Rattle.shown.proofs.Known.{Known, dueOf}
-use Rattle.shown.proofs.Shown.{FitFor}
-use Rattle.shown.proofs.Fits.{fit-after}
+use Rattle.shown.proofs.Shown.{Fits, fits-later}
 use Rattle.history.proofs.Agrees.{hubOf}
 use Rattle.history.proofs.Joining.{due, completions}
 use Rattle.history.proofs.Calling.{wait-passes, wait-completes}
 use Rattle.history.proofs.Waits.{completions-add}
 use Rattle.history.proofs.Told.{completions-are}
 use Rattle.shown.proofs.View.{view}
-use Rattle.shown.proofs.Logged.{logged-fit}
+use Rattle.shown.proofs.Logged.{logged-fits}
 use Rattle.history.proofs.Following.{hubAt, Keeps, follows}
 
 -- the hub of some history, with its store
@@ -76,7 +75,7 @@ past-fresh store size calls =
 abbrev present : ℕ → (ℕ → Known) → (ℕ → ℕ) → List ℕ → Reached
 present t K R store = record { hub = hubOf t K R; store = store }
 
-module _ (t : ℕ) (K : ℕ → Known) (R : ℕ → ℕ) (fit : (p : ℕ) → FitFor t (K p .sending)) (store : List ℕ) where
+module _ (t : ℕ) (K : ℕ → Known) (R : ℕ → ℕ) (fit : (p : ℕ) → Fits t (K p)) (store : List ℕ) where
   -- what a wait leaves
   wait-leaves : (n : ℕ) → n ≤ 1000000000 → afterwards (at (present t K R store) (waiting n)) ≡ present (t + n) K R store
   unfolding waitCall
@@ -103,12 +102,12 @@ none-at-once : (t : ℕ) (K : ℕ → Known) (ps : List ℕ) → gathered (due t
 none-at-once t K [] = refl
 none-at-once t K (p ∷ ps) = rw (due-at-once t (placeOf 1 p) (K p) (K p .sending)) (none-at-once t K ps)
 
-module _ (t : ℕ) (K : ℕ → Known) (R : ℕ → ℕ) (fit : (p : ℕ) → FitFor t (K p .sending)) (store : List ℕ) where
+module _ (t : ℕ) (K : ℕ → Known) (R : ℕ → ℕ) (fit : (p : ℕ) → Fits t (K p)) (store : List ℕ) where
   -- two waits and one of their sum
   two-waits : (a b : ℕ) → a + b ≤ 1000000000 → Composes (present t K R store) a b
   two-waits a b short =
       let first = wait-leaves t K R fit store a (omega arith) in
-      let later : (p : ℕ) → FitFor (t + a) (K p .sending) = λ p. fit-after t (t + a) (K p .sending) (omega arith) (fit p) in
+      let later : (p : ℕ) → Fits (t + a) (K p) = λ p. fits-later a (fit p) in
       let hubs : afterwards (at (afterwards (at (present t K R store) (waiting a))) (waiting b))
       ≡ afterwards (at (present t K R store) (waiting (a + b))) =
       ap (λ (r : Reached). afterwards (at r (waiting b))) first ∙ wait-leaves (t + a) K R later store b (omega arith)
@@ -154,13 +153,13 @@ pub waiting-composes : (store : List ℕ) → length store ≡ 1560 → (calls :
     → Composes (reached freshHub store calls) a b
 waiting-composes store size calls a b short =
     after-any (λ r. Composes r a b)
-    (λ h s. two-waits (now (logOf h)) (view (logOf h)) (λ p. relayOf p (logOf h)) (logged-fit h) s a b short) store size calls
+    (λ h s. two-waits (now (logOf h)) (view (logOf h)) (λ p. relayOf p (logOf h)) (logged-fits h) s a b short) store size calls
 
 -- "A wait of 0 changes nothing."
 pub wait-of-0 : (store : List ℕ) → length store ≡ 1560 → (calls : List Call) → ChangesNothing (reached freshHub store calls) (waiting 0)
 wait-of-0 =
     after-any (λ r. ChangesNothing r (waiting 0))
-    (λ h s. no-wait (now (logOf h)) (view (logOf h)) (λ p. relayOf p (logOf h)) (logged-fit h) s)
+    (λ h s. no-wait (now (logOf h)) (view (logOf h)) (λ p. relayOf p (logOf h)) (logged-fits h) s)
 
 -- ---- when a wait's completions are
 -- a test of each, in the meaning's words and in the hub's
@@ -176,7 +175,7 @@ waits-within store size calls n low =
     (λ h s.
     let log = logOf h in
     let l = completions (now log) (view log) n in
-    ap (all (λ x. between 1 n (x .moment .0))) (wait-gives (now log) (view log) (λ p. relayOf p log) (logged-fit h) s n low)
+    ap (all (λ x. between 1 n (x .moment .0))) (wait-gives (now log) (view log) (λ p. relayOf p log) (logged-fits h) s n low)
     ∙ sym (all-out (λ x. between 1 n (x .moment)) l)
     ∙ ap (all (λ x. between 1 n (x .moment))) (sym (completions-are log n))
     ∙ moments-within h n)

@@ -14,7 +14,7 @@ use Rattle.request.specs.Request.{readRequest}
 use Rattle.request.proofs.Accepted.{within}
 use Rattle.meaning.specs.Line.{is}
 use Rattle.meaning.specs.Log.{Deed, setting, felt, event, left, now, modeOf, relayOf}
-use Rattle.meaning.specs.Table.{taken, Judged, refusal, answerOf, deedsOf, Call, line, overlong, reading, closing, waiting, judge, logged, logOf, carriers, Said, said}
+use Rattle.meaning.specs.Table.{taken, Judged, refusal, answerOf, deedsOf, Call, line, overlong, reading, closing, waiting, judge, logged, logOf, carriers, levels, Said, said}
 use Rattle.reply.specs.Reply.{replyText}
 use Rattle.connector.specs.declared.Completion.{Completion}
 use Rattle.connector.specs.declared.Answer as hubs
@@ -23,7 +23,7 @@ use Rattle.hub.specs.declared.Hub.{Hub}
 use Rattle.hub.specs.declared.HubChange.the-variants as change
 use Rattle.hub.specs.Record.{freshHub}
 use Rattle.hub.specs.Line.{Outcome, deciding, leaving, lineStep, overlongStep}
-use Rattle.hub.specs.Calls.{readingCall, closedCall, carriersOf}
+use Rattle.hub.specs.Calls.{readingCall, closedCall, carriersOf, levelsOf}
 use Rattle.hub.specs.Wait.{waitCall}
 use Rattle.history.specs.Heard.{answerOut}
 use Rattle.history.specs.Run.{Called, afterChange, called, run}
@@ -32,10 +32,10 @@ use Rattle.reads.proofs.Cursor.{modeIn}
 use Rattle.shown.proofs.Known.{Known, errorLine}
 use Rattle.history.proofs.Agrees.{hubOf, Stored, Means, unmoved, hub-alike, stored-alike, means-alike}
 use Rattle.history.proofs.Asking.{asked-means}
-use Rattle.history.proofs.Calling.{leftBy, wait-passes, wait-completes, stored-later, closed-means, closed-stored, reading-means, carriers-shown}
+use Rattle.history.proofs.Calling.{leftBy, wait-passes, wait-completes, stored-later, closed-means, closed-stored, reading-means, carriers-shown, levels-shown}
 use Rattle.shown.proofs.View.{view, worded, request-step, now-step, relay-step, reading-step, closing-step}
-use Rattle.history.proofs.Told.{request-said, reading-said, carriers-are, completions-are}
-use Rattle.shown.proofs.Logged.{logged-fit}
+use Rattle.history.proofs.Told.{request-said, reading-said, carriers-are, levels-are, completions-are}
+use Rattle.shown.proofs.Logged.{logged-fit, logged-fits}
 
 -- the hub that shows a log
 abbrev pub hubAt : List Deed → Hub
@@ -99,7 +99,7 @@ module _ (h : List Call) (store : List ℕ) (st : Keeps store (logOf h)) where
   reading-follows : (port value : ℕ)
       → Follows log (judge log (reading port value)) (afterChange (hubAt log) (leaving (readingCall (hubAt log) port value) store))
   reading-follows port value =
-      plainly (reading-means (now log) (view log) (λ p. relayOf p log) (logged-fit h) store st port value) (reading-said log port value)
+      plainly (reading-means (now log) (view log) (λ p. relayOf p log) (logged-fits h) store st port value) (reading-said log port value)
       (unheard (λ l. now l ≡ now log) refl refl)
       (λ slot w. reading-step log port value (suc slot) (omega arith) (omega arith))
       (λ p. unheard (λ l. relayOf p l ≡ relayOf p log) refl refl)
@@ -123,10 +123,10 @@ module _ (h : List Call) (store : List ℕ) (st : Keeps store (logOf h)) where
       rw e
       (record {
         said = refl;
-        hub = closed-means (now log) (view log) (λ p. relayOf p log) (logged-fit h) store st connection
+        hub = closed-means (now log) (view log) (λ p. relayOf p log) (logged-fits h) store st connection
             ∙ hub-alike (now log) (leftBy (view log) connection) (view (event (left connection) ∷ log)) {R = λ p. relayOf p log} (left-seen connection)
             (λ p. refl);
-        stored = stored-alike (left-seen connection) (closed-stored (now log) (view log) (λ p. relayOf p log) (logged-fit h) store st connection);
+        stored = stored-alike (left-seen connection) (closed-stored (now log) (view log) (λ p. relayOf p log) (logged-fits h) store st connection);
       })
 
   -- a wait
@@ -137,10 +137,10 @@ module _ (h : List Call) (store : List ℕ) (st : Keeps store (logOf h)) where
       (λ e. rw e (record { said = refl; hub = refl; stored = st }))
       (λ e. rw e
       (record {
-        said = ap (λ (l : List Completion). answerOut answer.Taken l) (wait-completes (now log) (view log) (λ p. relayOf p log) (logged-fit h) n)
+        said = ap (λ (l : List Completion). answerOut answer.Taken l) (wait-completes (now log) (view log) (λ p. relayOf p log) (logged-fits h) n)
             ∙ ap taken (sym (completions-are log n));
-        hub = wait-passes (now log) (view log) (λ p. relayOf p log) (logged-fit h) n;
-        stored = stored-later (now log) (view log) (λ p. relayOf p log) (logged-fit h) store st n;
+        hub = wait-passes (now log) (view log) (λ p. relayOf p log) (logged-fits h) n;
+        stored = stored-later (now log) (view log) (λ p. relayOf p log) (logged-fits h) store st n;
       }))
 
   -- ---- every call
@@ -155,7 +155,11 @@ module _ (h : List Call) (store : List ℕ) (st : Keeps store (logOf h)) where
   -- the carriers at any time
   pub carriers-follow : carriersOf (hubAt log) store ≡ carriers log
   carriers-follow =
-      carriers-shown (now log) (view log) (λ p. relayOf p log) (logged-fit h) store st ∙ sym (carriers-are log)
+      carriers-shown (now log) (view log) (λ p. relayOf p log) (logged-fits h) store st ∙ sym (carriers-are log)
+
+  -- the levels at any time
+  pub levels-follow : levelsOf (hubAt log) ≡ levels log
+  levels-follow = levels-shown (now log) (view log) (λ p. relayOf p log) (logged-fits h) ∙ sym (levels-are log)
 
 -- ---- all calls, one after the other
 -- after any history all that is said to more calls is what the table says
@@ -164,9 +168,10 @@ followed h [] store st = refl
 followed h (call ∷ l) store st =
     let f = follows h store st call in
     let c = called (hubAt (logOf h)) store call in
-    let lit : carriersOf (c .hub) (c .store) ≡ carriers (logOf (call ∷ h)) =
+    let lit : levelsOf (c .hub) ≡ levels (logOf (call ∷ h)) = ap levelsOf (f .hub) ∙ levels-follow (call ∷ h) (c .store) (f .stored) in
+    let on : carriersOf (c .hub) (c .store) ≡ carriers (logOf (call ∷ h)) =
     ap (λ (x : Hub). carriersOf x (c .store)) (f .hub) ∙ carriers-follow (call ∷ h) (c .store) (f .stored) in
-    ap₂ (λ (x : Said) (y : List Said). x ∷ y) (λ i. record { answer = f .said i; carriers = lit i })
+    ap₂ (λ (x : Said) (y : List Said). x ∷ y) (λ i. record { answer = f .said i; carriers = on i; levels = lit i })
     (ap (λ (x : Hub). run x (c .store) l) (f .hub) ∙ followed (call ∷ h) l (c .store) (f .stored))
 
 -- whatever the store holds at first

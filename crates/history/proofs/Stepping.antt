@@ -1,8 +1,8 @@
 -- What is asked of one connector, whichever it is: the step of the record that shows what is known of it gives the answer that is said, and
 -- becomes the record that shows what is known then.
 use Prim.Native.Nat.{ℕ, _*_}
-use mathlib.Core.Path.{_≡_, refl, sym, _∙_}
-use mathlib.Core.Bool.{not}
+use mathlib.Core.Path.{_≡_, refl, sym, ap, _∙_}
+use mathlib.Core.Bool.{Bool, not}
 use mathlib.Core.List.{List}
 use mathlib.Core.Option.{Option, none, some}
 use native.Mathlib.Omega.{arith}
@@ -15,15 +15,18 @@ use Rattle.words.specs.declared.Pair.{Pair}
 use Rattle.words.specs.declared.Fields.{Fields}
 use Rattle.words.specs.Pairs.{countsOf, countsIn}
 use Rattle.meaning.specs.Time.{Transmission, started, renewed}
+use Rattle.meaning.specs.Lamp.{Lamp, level, turned}
 use Rattle.meaning.specs.Log.{until}
 use Rattle.request.specs.declared.mode.Mode.{Mode}
 use Rattle.request.specs.declared.Place.{Place}
 use Rattle.request.specs.declared.Ask.{Ask}
 use Rattle.request.specs.declared.Ask.the-variants as ask
-use Rattle.request.specs.Mode.{isSensor}
+use Rattle.request.specs.Mode.{isSensor, isLighting, isSilent}
+use Rattle.request.specs.Place.{nowhere}
 use Rattle.command.specs.Read.{CommandReading, sent, faulty, commandAt, Accepts}
 use Rattle.command.proofs.Commands.{command-within}
 use Rattle.reply.specs.declared.Reply.the-variants as reply
+use Rattle.lamp.proofs.Meaning.{shownAt, percent-shown, turned-shown}
 use Rattle.store.proofs.Kept.{kept-size, kept-found}
 use Rattle.waveform.specs.Paced.{Fit}
 use Rattle.waveform.proofs.Paced.{started-runs, renewed-runs}
@@ -43,8 +46,8 @@ use Rattle.connector.specs.Reading.{readingStep}
 use Rattle.connector.specs.Step as step
 use Rattle.connector.specs.Step.{Made, stepping, keeping, byVerdict, commandStep, commandRead, sendStep, stepOf}
 use Rattle.hub.specs.Record.{partSize}
-use Rattle.shown.proofs.Known.{Known, transmits, withSending, withMode, sameCommand, commanded, sentTo, asked, replyAlone, errorLine, contactSaid, commandSaid, sendirSaid, told, askSaid, withReading, readAs, readingSaid}
-use Rattle.shown.proofs.Shown.{shown, FitFor, HeldIn, fit-on-air, mode-shown, sensor-shown, contact-shown, running-shown, with-mode-shown, with-reading-shown, stopped-shown, told-shown, started-shown, renewed-shown, verdictOn, verdict-shown}
+use Rattle.shown.proofs.Known.{Known, transmits, withSending, withMode, sameCommand, commanded, sentTo, asked, replyAlone, errorLine, contactSaid, commandSaid, sendirSaid, told, lampSaid, askSaid, withReading, readAs, readingSaid}
+use Rattle.shown.proofs.Shown.{shown, FitFor, HeldIn, fit-on-air, mode-shown, sensor-shown, lighting-shown, silent-shown, lamp-shown, contact-shown, running-shown, with-mode-shown, with-reading-shown, with-lamp-shown, stopped-shown, told-shown, started-shown, renewed-shown, verdictOn, verdict-shown}
 
 -- a step of a connector that was known as x: its answer, and that it shows y then
 pub record Steps (t : ℕ) (a : Answer) (x y : Known) (s : Stepped) : Type 0 where
@@ -112,13 +115,40 @@ module _ (t : ℕ) (x : Known) (fit : FitFor t (x .sending)) (kept : List ℕ) (
       (keeping (step.stops (shown t x) connection place) kept)
   unfolding step.stops
   stop-means =
-      rw (sensor-shown t x, told-shown t connection x)
-      (by-test (isSensor (x .mode))
+      rw (silent-shown t x, told-shown t connection x)
+      (by-test (isSilent (x .mode))
       (λ e. rw e (keeps held (still (errorLine 13 place))))
       (λ e. rw e
       (keeps tt
       (anew (answer.Reply (reply.Stopped place) (told connection x (until t (x .sending)))) (change.stopped (shown t x))
       (sym (stopped-shown t x))))))
+
+  -- ---- a lamp
+  -- what it is told as at that moment
+  lamp-told : (l : Lamp) → step.lampReply place (shownAt l t) ≡ reply.Lamp place (level l t) (l .target)
+  unfolding shownAt
+  lamp-told l = ap (λ n. reply.Lamp place n (l .target)) (percent-shown l t)
+
+  -- set_LED_LIGHTING
+  set-lamp-means : (target ramp : ℕ) (more : Bool) → StepMeans t (askSaid t connection text place x (ask.SetLamp target ramp more)) x
+      (asked t connection text x (ask.SetLamp target ramp more)) (keeping (step.setLamp (shown t x) place target ramp more) kept)
+  unfolding step.ofLamp
+  set-lamp-means target ramp more =
+      rw (lighting-shown t x)
+      (by-test (not (isLighting (x .mode))) (λ e. rw e (keeps held (still (errorLine 23 place)))) λ e.
+      by-test more (λ f. rw (e, f) (keeps held (still (errorLine 17 nowhere)))) λ f.
+      rw (e, f, lamp-shown t x, ← turned-shown (x .lamp) t target ramp, lamp-told (turned (x .lamp) target ramp t))
+      (keeps held (anew (lampSaid t place (turned (x .lamp) target ramp t)) _
+      (ap (change.withLamp (shown t x)) (turned-shown (x .lamp) t target ramp) ∙ sym (with-lamp-shown t x target ramp)))))
+
+  -- get_LED_LIGHTING
+  get-lamp-means : (more : Bool) → StepMeans t (askSaid t connection text place x (ask.GetLamp more)) x x
+      (keeping (step.getLamp (shown t x) place more) kept)
+  unfolding step.ofLamp
+  get-lamp-means more =
+      rw (lighting-shown t x, lamp-shown t x, lamp-told (x .lamp))
+      (by-test (not (isLighting (x .mode))) (λ e. rw e (keeps held (still (errorLine 23 place)))) λ e.
+      by-test more (λ f. rw (e, f) (keeps held (still (errorLine 17 nowhere)))) (λ f. rw (e, f) (keeps held (still (lampSaid t place (x .lamp))))))
 
   -- ---- a sendir
   module _ (f : Fields) (ps : List Pair) (l : Accepts f ps) where
@@ -178,8 +208,8 @@ module _ (t : ℕ) (x : Known) (fit : FitFor t (x .sending)) (kept : List ℕ) (
       (asked t connection text x (ask.Send at)) (sendStep (shown t x) kept connection text place at)
   unfolding sendStep
   send-means at =
-      rw (sensor-shown t x)
-      (by-test (isSensor (x .mode)) (λ e. rw e (keeps held (still (errorLine 13 place))))
+      rw (silent-shown t x)
+      (by-test (isSilent (x .mode)) (λ e. rw e (keeps held (still (errorLine 13 place))))
       (λ e. rw e (read-means (commandAt text at) (command-within text at))))
 
   -- ---- whatever is asked
@@ -192,3 +222,5 @@ module _ (t : ℕ) (x : Known) (fit : FitFor t (x .sending)) (kept : List ℕ) (
   step-means ask.GetContact = get-contact-means
   step-means (ask.Send at) = send-means at
   step-means ask.Stop = stop-means
+  step-means (ask.SetLamp target ramp more) = set-lamp-means target ramp more
+  step-means (ask.GetLamp more) = get-lamp-means more

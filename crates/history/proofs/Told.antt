@@ -18,8 +18,9 @@ use Rattle.words.specs.declared.Fields.{Fields}
 use Rattle.meaning.specs.Line as text
 use Rattle.meaning.specs.Line.{addressed}
 use Rattle.meaning.specs.Time.{Transmission, complete, carrier}
+use Rattle.meaning.specs.Lamp.{Lamp, level, turned}
 use Rattle.meaning.specs.Log as log
-use Rattle.meaning.specs.Log.{Deed, now, modeOf, contactOf, relayOf, lastOf, ownerOf, isOwner, until}
+use Rattle.meaning.specs.Log.{Deed, setting, lit, now, modeOf, contactOf, lampOf, relayOf, lastOf, ownerOf, isOwner, until}
 use Rattle.meaning.specs.Table as table
 use Rattle.meaning.specs.Table.{Answer, replied, answerOf, error, isSame, reading, judge}
 use Rattle.request.specs.declared.mode.Mode.{Mode}
@@ -32,8 +33,8 @@ use Rattle.request.specs.declared.Turn.the-variants as turn
 use Rattle.request.specs.declared.Request.{Request}
 use Rattle.request.specs.declared.Request.the-variants as request
 use Rattle.request.specs.Accepted.{Within}
-use Rattle.request.specs.Mode.{modeWord, isSensor}
-use Rattle.request.specs.Place.{placeOf}
+use Rattle.request.specs.Mode.{modeWord, isSensor, isLighting, isSilent}
+use Rattle.request.specs.Place.{placeOf, nowhere}
 use Rattle.command.specs.Read.{CommandReading, sent, faulty, commandAt}
 use Rattle.reply.specs.declared.Reply.the-variants as reply
 use Rattle.reply.specs.Reply.{replyText}
@@ -44,11 +45,13 @@ use Rattle.connector.specs.declared.Answer.the-variants as answer
 use Rattle.connector.specs.Change.{owns}
 use Rattle.connector.specs.Step.{alsoTold}
 use Rattle.hub.specs.Completions.{inserted, ordered}
+use Rattle.theorems.specs.Deeds.{inLighting}
+use Rattle.theorems.specs.Spelled.{lampLine}
 use Rattle.reads.specs.Meant.{meantCommand, meantRead, meantFixed, meantAsk, meantTurn, meant}
-use Rattle.reads.proofs.Cursor.{modeIn, sensor-is}
+use Rattle.reads.proofs.Cursor.{modeIn, sensor-is, lighting-is, silent-is}
 use Rattle.history.specs.Heard.{ownerOut, completionOut, answerOut}
 use Rattle.shown.proofs.Known as known
-use Rattle.shown.proofs.Known.{contactSaid, commandSaid, sendirSaid, told, askSaid, requestSaid}
+use Rattle.shown.proofs.Known.{contactSaid, commandSaid, sendirSaid, told, lampSaid, askSaid, requestSaid}
 use Rattle.history.proofs.Joining.{due, completions}
 use Rattle.history.proofs.Calling.{readingCallSaid}
 use Rattle.shown.proofs.View.{ownerIn, contactIn, view, Worded, owner-is, bit-is}
@@ -83,6 +86,13 @@ mode-out p mode = refl
 state-out : (m p state : ℕ) → replied (text.line "state," m p (decimal state)) none ≡ out (known.replyAlone (reply.State (placeOf m p) state))
 unfolding replyText
 state-out m p state = refl
+
+-- a lamp
+lamp-out : (p shown target : ℕ)
+    → replied (text.line "LED_LIGHTING," 1 p (decimal shown ++ bytes "," ++ decimal target)) none
+    ≡ out (known.replyAlone (reply.Lamp (placeOf 1 p) shown target))
+unfolding replyText
+lamp-out p shown target = refl
 
 -- stopir
 stopped-out : (p : ℕ) (o : Owner)
@@ -132,6 +142,16 @@ module _ (l : List Deed) (connection : ℕ) (s : List ℕ) (p : ℕ) where
   contact-said none = error-out 28 atPort
   contact-said (some value) = state-out 1 p value
 
+  -- what a lamp is told as, where the connector is one and nothing stands behind the request
+  lamp-said : (more : Bool) (x : Lamp) (ds : List Deed)
+      → answerOf (cond (not (inLighting p l)) (error 23 1 p) (cond more (error 17 0 0) (table.reply (lampLine l p x) ds)))
+      ≡ out (known.ofLamp atPort (view l p) more (lampSaid (now l) atPort x))
+  lamp-said more x ds =
+      rw (lighting-is (modeOf p l))
+      (by-test (isLighting (modeIn (modeOf p l)))
+      (λ e. rw e (by-test more (λ f. rw f (error-out 17 nowhere)) (λ f. rw f (lamp-out p (level x (now l)) (x .target)))))
+      (λ e. rw e (error-out 23 atPort)))
+
   -- whatever is asked of it
   ask-said : Worded l → (a : Ask) → answerOf (meantAsk l connection s p a) ≡ out (askSaid (now l) connection s atPort (view l p) a)
   unfolding log.onAir
@@ -143,12 +163,14 @@ module _ (l : List Deed) (connection : ℕ) (s : List ℕ) (p : ℕ) where
       rw (sensor-is (modeOf p l))
       (by-test (isSensor (modeIn (modeOf p l))) (λ e. rw e (contact-said (contactOf p l))) (λ e. rw e (error-out 18 atPort)))
   ask-said words (ask.Send at) =
-      rw (sensor-is (modeOf p l))
-      (by-test (isSensor (modeIn (modeOf p l))) (λ e. rw e (error-out 13 atPort)) (λ e. rw e (read-said (commandAt s at))))
+      rw (silent-is (modeOf p l))
+      (by-test (isSilent (modeIn (modeOf p l))) (λ e. rw e (error-out 13 atPort)) (λ e. rw e (read-said (commandAt s at))))
   ask-said words ask.Stop =
-      rw (sensor-is (modeOf p l))
-      (by-test (isSensor (modeIn (modeOf p l))) (λ e. rw e (error-out 13 atPort))
+      rw (silent-is (modeOf p l))
+      (by-test (isSilent (modeIn (modeOf p l))) (λ e. rw e (error-out 13 atPort))
       (λ e. rw (e, told-said (until (now l) (lastOf p l))) (stopped-out p (told connection (view l p) (until (now l) (lastOf p l))))))
+  ask-said words (ask.SetLamp target ramp more) = lamp-said more (turned (lampOf p l) target ramp (now l)) (setting p (lit target ramp) ∷ [])
+  ask-said words (ask.GetLamp more) = lamp-said more (lampOf p l) []
 
 -- ---- a request
 -- what is asked of a relay
@@ -182,11 +204,15 @@ reading-said l port value =
     (by-test (isSensor (modeIn (modeOf port l))) (λ f. rw f
     (by-test (ltb 1 value) (λ g. rw g) (λ g. rw g))) (λ f. rw f))) (λ e. rw e))
 
--- ---- carriers
+-- ---- carriers and levels
 -- the carriers are told alike
 pub carriers-are : (l : List Deed) → table.carriers l ≡ map (λ p. holds (λ s. carrier s (now l)) (until (now l) (view l p .sending))) ports
 unfolding log.onAir
 carriers-are l = refl
+
+-- so are the levels
+pub levels-are : (l : List Deed) → table.levels l ≡ map (λ p. level (view l p .lamp) (now l)) ports
+levels-are l = refl
 
 -- ---- the completions of a wait
 -- what is due of a connector is told alike

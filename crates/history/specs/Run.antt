@@ -12,7 +12,7 @@ use Rattle.hub.specs.declared.Waited.{Waited}
 use Rattle.hub.specs.declared.Hub.{Hub}
 use Rattle.hub.specs.Record.{applied}
 use Rattle.hub.specs.Line.{Outcome, leaving, lineStep, overlongStep}
-use Rattle.hub.specs.Calls.{readingCall, closedCall, carriersOf}
+use Rattle.hub.specs.Calls.{readingCall, closedCall, carriersOf, levelsOf}
 use Rattle.hub.specs.Wait.{waitCall}
 use Rattle.history.specs.Heard.{answerOut}
 
@@ -44,9 +44,9 @@ called hub store (reading port value) = afterChange hub (leaving (readingCall hu
 called hub store (closing connection) = afterMove (closedCall hub connection) store
 called hub store (waiting n) = afterWait (waitCall hub n) store
 
--- what is heard of it: its answer, and each connector's carrier after it
+-- what is heard of it: its answer, and each connector's carrier and level after it
 abbrev pub saidBy : Called → Said
-saidBy c = record { answer = answerOut (c .answer) (c .completions); carriers = carriersOf (c .hub) (c .store) }
+saidBy c = record { answer = answerOut (c .answer) (c .completions); carriers = carriersOf (c .hub) (c .store); levels = levelsOf (c .hub) }
 
 abbrev pub run : Hub → List ℕ → List Call → List Said
 run hub store [] = []

@@ -1,10 +1,10 @@
 -- What the hub keeps of a lamp at a moment is what the meaning's lamp shows then: by the gap that is left of the way from its last target on.
 use Prim.Native.Nat.{ℕ, _+_, _-_, _*_, _≤_}
 use mathlib.Core.Path.{_≡_, refl, sym, ap}
-use mathlib.Core.Bool.{cond}
+use mathlib.Core.Bool.{true, cond}
 use native.Mathlib.Nat.{mul-add}
 use native.Mathlib.Omega.{arith}
-use borrow.Author.Tests.{lt-ltb, le-ltb, ltb-true, ltb-false}
+use borrow.Author.Tests.{ltb-true, ltb-false, eqb-true}
 use lib.Dec.{ltb, eqb}
 use Rattle.laws.proofs.Choice.{by-test}
 use Rattle.meaning.specs.Lamp.{exactly, towards, exactLevel, level}
@@ -57,6 +57,13 @@ going-on : (gap ramp since t n : ℕ) → since ≤ t
 going-on gap ramp since t n h =
     let later : t + n - since ≡ t - since + n = omega arith in
     by-test (eqb ramp 0) (λ e. rw e (omega arith)) (λ e. rw (e, later) (omega (arith, mul-add ramp (t - since) n)))
+
+-- one that is at its target stays as it is
+pub at-rest : (x : Lamp) (n : ℕ) → eqb (x .gap .0) 0 ≡ true → passed x n ≡ x
+unfolding passed
+at-rest x n e =
+    let none : x .gap .0 - x .ramp * n ≡ x .gap .0 = omega (arith, eqb-true (x .gap .0) 0 e) in
+    ap (λ gap. lampOf gap (x .target) (x .ramp) (x .rises)) none
 
 -- "A new target starts from the exact level."
 pub turned-shown : (x : meant.Lamp) (t target ramp : ℕ) → shownAt (meant.turned x target ramp t) t ≡ turned (shownAt x t) target ramp

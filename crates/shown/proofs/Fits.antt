@@ -1,10 +1,9 @@
--- What is fit stays fit: a request keeps every transmission one of an accepted command, at a moment since its start, and so does time.
-use Prim.Native.Nat.{ℕ, _+_, _-_, _≤_}
-use mathlib.Core.Path.{_≡_, refl, subst}
+-- What is fit stays fit: a request keeps every transmission one of an accepted command, at a moment since its start.
+use Prim.Native.Nat.{ℕ}
+use mathlib.Core.Path.{_≡_, refl}
 use mathlib.Core.Bool.{not}
 use mathlib.Core.List.{List}
 use mathlib.Core.Option.{Option, none, some}
-use native.Mathlib.Omega.{arith}
 use lib.Dec.{eqb}
 use Rattle.laws.proofs.Choice.{cond-case}
 use Rattle.words.specs.declared.Pair.{Pair}
@@ -13,13 +12,12 @@ use Rattle.request.specs.declared.Ask.{Ask}
 use Rattle.request.specs.declared.Ask.the-variants as ask
 use Rattle.request.specs.declared.Request.{Request}
 use Rattle.request.specs.declared.Request.the-variants as request
-use Rattle.request.specs.Mode.{isSensor}
+use Rattle.request.specs.Mode.{isLighting, isSilent}
 use Rattle.command.specs.Read.{CommandReading, sent, faulty, commandAt, Accepts}
 use Rattle.command.proofs.Commands.{command-within}
 use Rattle.meaning.specs.Time.{Transmission}
 use Rattle.meaning.specs.Log.{until}
-use Rattle.waveform.specs.Paced.{Fit}
-use Rattle.waveform.proofs.Paced.{fit-started, fit-renewed, fit-later}
+use Rattle.waveform.proofs.Paced.{fit-started, fit-renewed}
 use Rattle.connector.specs.Change.{owns, sameMode}
 use Rattle.shown.proofs.Known.{Known, transmits, sameCommand, commanded, sentTo, asked, knownAfter, withMode}
 use Rattle.shown.proofs.Shown.{FitFor, fit-on-air}
@@ -49,10 +47,14 @@ module _ (t connection : ℕ) (x : Known) (g : FitFor t (x .sending)) where
   asked-fit text ask.GetMode = g
   asked-fit text ask.GetContact = g
   asked-fit text (ask.Send at) =
-      cond-case (λ (y : Known). FitFor t (y .sending)) (isSensor (x .mode)) _ _ (λ e. g)
+      cond-case (λ (y : Known). FitFor t (y .sending)) (isSilent (x .mode)) _ _ (λ e. g)
       (λ e. sent-fit (commandAt text at) (command-within text at))
   asked-fit text ask.Stop =
-      cond-case (λ (y : Known). FitFor t (y .sending)) (isSensor (x .mode)) _ _ (λ e. g) (λ e. tt)
+      cond-case (λ (y : Known). FitFor t (y .sending)) (isSilent (x .mode)) _ _ (λ e. g) (λ e. tt)
+  asked-fit text (ask.SetLamp target ramp more) =
+      let P : Known → Type 0 = λ y. FitFor t (y .sending) in
+      cond-case P (not (isLighting (x .mode))) _ _ (λ e. g) λ e. cond-case P more _ _ (λ f. g) (λ f. g)
+  asked-fit text (ask.GetLamp more) = g
 
 -- of all connectors
 pub request-fit : (t connection : ℕ) (text : List ℕ) (K : ℕ → Known) (r : Request) (p : ℕ) → FitFor t (K p .sending)
@@ -63,8 +65,3 @@ request-fit t connection text K (request.Connector place ask) p g =
     cond-case (λ (y : Known). FitFor t (y .sending)) (eqb (place .port) p) _ _
     (λ e. asked-fit t connection (K p) g text ask) (λ e. g)
 request-fit t connection text K (request.Relay place turn) p g = g
-
--- time passes
-pub fit-after : (t u : ℕ) (o : Option Transmission) → t ≤ u → FitFor t o → FitFor u o
-fit-after t u none h g = tt
-fit-after t u (some s) h g = let e : t + (u - t) ≡ u = omega arith in subst (Fit s) e (fit-later g (u - t))

@@ -11,6 +11,7 @@ use Rattle.words.specs.declared.Pair.{Pair}
 use Rattle.words.specs.declared.Fields.{Fields}
 use Rattle.words.specs.Pairs.{countsOf}
 use Rattle.meaning.specs.Time.{Transmission, complete, finish, started, renewed}
+use Rattle.meaning.specs.Lamp.{Lamp, dark, level, turned}
 use Rattle.meaning.specs.Log.{until}
 use Rattle.request.specs.declared.mode.Mode.{Mode}
 use Rattle.request.specs.declared.Place.{Place}
@@ -20,7 +21,8 @@ use Rattle.request.specs.declared.Turn.{Turn}
 use Rattle.request.specs.declared.Turn.the-variants as turn
 use Rattle.request.specs.declared.Request.{Request}
 use Rattle.request.specs.declared.Request.the-variants as request
-use Rattle.request.specs.Mode.{isSensor}
+use Rattle.request.specs.Mode.{isSensor, isLighting, isSilent}
+use Rattle.request.specs.Place.{nowhere}
 use Rattle.command.specs.Read.{CommandReading, sent, faulty, commandAt}
 use Rattle.reply.specs.declared.Reply.{Reply}
 use Rattle.reply.specs.declared.Reply.the-variants as reply
@@ -43,10 +45,15 @@ pub record Known : Type 0 where
   pub mode : Mode
   pub contact : Contact
   pub sending : Option Transmission
+  pub lamp : Lamp
 
--- the same mode and contact, with another transmission or none
+-- the same mode, contact and lamp, with another transmission or none
 abbrev pub withSending : Known → Owner → Option Transmission → Known
-withSending x owner sending = record { owner = owner; mode = x .mode; contact = x .contact; sending = sending }
+withSending x owner sending = record { owner = owner; mode = x .mode; contact = x .contact; sending = sending; lamp = x .lamp }
+
+-- with another lamp
+abbrev pub withLamp : Known → Lamp → Known
+withLamp x lamp = record { owner = x .owner; mode = x .mode; contact = x .contact; sending = x .sending; lamp = lamp }
 
 -- whether something is on air at a moment
 abbrev pub transmits : ℕ → Known → Bool
@@ -75,15 +82,20 @@ sentTo t connection x (sent f ps) = commanded t connection x f ps (until t (x .s
 abbrev pub withMode : Known → Mode → Known
 withMode x mode =
     cond (sameMode (x .mode) mode) x
-    (record { owner = x .owner; mode = mode; contact = Unread; sending = x .sending })
+    (record { owner = x .owner; mode = mode; contact = Unread; sending = x .sending; lamp = dark })
 
 -- whatever is asked
 abbrev pub asked : ℕ → ℕ → List ℕ → Known → Ask → Known
 asked t connection text x (ask.SetMode mode) = cond (transmits t x) x (withMode x mode)
 asked t connection text x ask.GetMode = x
 asked t connection text x ask.GetContact = x
-asked t connection text x (ask.Send at) = cond (isSensor (x .mode)) x (sentTo t connection x (commandAt text at))
-asked t connection text x ask.Stop = cond (isSensor (x .mode)) x (withSending x Nobody none)
+asked t connection text x (ask.Send at) = cond (isSilent (x .mode)) x (sentTo t connection x (commandAt text at))
+asked t connection text x ask.Stop = cond (isSilent (x .mode)) x (withSending x Nobody none)
+asked t connection text x (ask.SetLamp target ramp more) = first
+    ((not (isLighting (x .mode)) ⇒ x)
+    ∷ (more ⇒ x)
+    ∷ []) (withLamp x (turned (x .lamp) target ramp t))
+asked t connection text x (ask.GetLamp more) = x
 
 -- what of all connectors or relays the one at a port becomes, and the others stay
 abbrev pub changedAt : {A : Type 0} → ℕ → (A → A) → (ℕ → A) → ℕ → A
@@ -137,6 +149,17 @@ abbrev pub told : ℕ → Known → Option Transmission → Owner
 told connection x none = Nobody
 told connection x (some s) = alsoTold (x .owner) connection
 
+-- a lamp as it is at a moment
+abbrev pub lampSaid : ℕ → Place → Lamp → Answer
+lampSaid t place lamp = replyAlone (reply.Lamp place (level lamp t) (lamp .target))
+
+-- where the connector is a lamp, and nothing stands behind the request
+abbrev pub ofLamp : Place → Known → Bool → Answer → Answer
+ofLamp place x more otherwise = first
+    ((not (isLighting (x .mode)) ⇒ errorLine 23 place)
+    ∷ (more ⇒ errorLine 17 nowhere)
+    ∷ []) otherwise
+
 -- by the connector that is asked
 abbrev pub askSaid : ℕ → ℕ → List ℕ → Place → Known → Ask → Answer
 askSaid t connection text place x (ask.SetMode mode) = cond (transmits t x) (errorLine 29 place) (replyAlone (reply.Mode place mode))
@@ -144,10 +167,12 @@ askSaid t connection text place x ask.GetMode = replyAlone (reply.Mode place (x 
 askSaid t connection text place x ask.GetContact =
     cond (not (isSensor (x .mode))) (errorLine 18 place) (contactSaid place (x .contact))
 askSaid t connection text place x (ask.Send at) =
-    cond (isSensor (x .mode)) (errorLine 13 place) (sendirSaid t connection place x (commandAt text at))
+    cond (isSilent (x .mode)) (errorLine 13 place) (sendirSaid t connection place x (commandAt text at))
 askSaid t connection text place x ask.Stop =
-    cond (isSensor (x .mode)) (errorLine 13 place)
+    cond (isSilent (x .mode)) (errorLine 13 place)
     (answer.Reply (reply.Stopped place) (told connection x (until t (x .sending))))
+askSaid t connection text place x (ask.SetLamp target ramp more) = ofLamp place x more (lampSaid t place (turned (x .lamp) target ramp t))
+askSaid t connection text place x (ask.GetLamp more) = ofLamp place x more (lampSaid t place (x .lamp))
 
 -- by connectors and relays
 abbrev pub requestSaid : ℕ → (ℕ → Known) → (ℕ → ℕ) → ℕ → List ℕ → Request → Answer
@@ -159,7 +184,7 @@ requestSaid t K R connection text (request.Relay place turn) = replyAlone (reply
 -- ---- a reading, and the completion of a wait
 -- the contact read
 abbrev pub withReading : Known → ℕ → Known
-withReading x value = record { owner = x .owner; mode = x .mode; contact = Read value; sending = x .sending }
+withReading x value = record { owner = x .owner; mode = x .mode; contact = Read value; sending = x .sending; lamp = x .lamp }
 
 -- what a reading makes of a connector: 104 changes nothing
 abbrev pub readAs : Known → ℕ → Known

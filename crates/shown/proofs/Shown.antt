@@ -1,6 +1,6 @@
 -- The record of a connector that is known, at a moment; each rule of what is known is the record's rule.
-use Prim.Native.Nat.{ℕ, _+_, _*_, _-_}
-use mathlib.Core.Path.{_≡_, refl, sym, ap, _∙_}
+use Prim.Native.Nat.{ℕ, _+_, _*_, _-_, _≤_}
+use mathlib.Core.Path.{_≡_, refl, sym, ap, _∙_, subst}
 use mathlib.Core.Bool.{Bool, true, false, cond, not, _&&_}
 use mathlib.Core.List.{List, [], _∷_}
 use mathlib.Core.Option.{Option, none, some}
@@ -16,16 +16,21 @@ use Rattle.words.specs.Pairs.{countsOf}
 use Rattle.words.proofs.Pairs.{counts-length}
 use Rattle.request.specs.declared.mode.Mode.{Mode}
 use Rattle.request.specs.declared.Place.{Place}
-use Rattle.request.specs.Mode.{isSensor}
+use Rattle.request.specs.Mode.{isSensor, isLighting, isSilent}
 use Rattle.command.specs.Read.{Accepts}
 use Rattle.pace.specs.declared.Passed.the-variants as passed
 use Rattle.pace.specs.Pace.{micros}
 use Rattle.meaning.specs.Time.{Transmission, complete, finish, carrier, started, renewed}
+use Rattle.meaning.specs.Lamp.{dark, level, turned}
 use Rattle.meaning.specs.Log.{until}
+use Rattle.lamp.specs.Lamp as lamp
+use Rattle.lamp.specs.Lamp.{percentOf}
+use Rattle.lamp.proofs.Meaning.{shownAt, percent-shown, turned-shown, at-rest}
+use Rattle.lamp.proofs.Meaning.{passed-shown as lamp-passed}
 use Rattle.store.specs.Store.{alike}
 use Rattle.store.proofs.Kept.{alike-same}
 use Rattle.waveform.specs.Paced.{Fit, paceAt}
-use Rattle.waveform.proofs.Paced.{pace-started, pace-renewed, started-runs, renewed-runs, complete-later, passed-is}
+use Rattle.waveform.proofs.Paced.{pace-started, pace-renewed, started-runs, renewed-runs, complete-later, passed-is, fit-later}
 use Rattle.waveform.proofs.Carried.{carrier-paced}
 use Rattle.connector.specs.declared.Owner.the-variants.{Nobody, Connection}
 use Rattle.connector.specs.declared.Contact.the-variants.{Unread}
@@ -39,9 +44,9 @@ use Rattle.connector.specs.Change.{isRunning, owns, ownerLeft, sameMode}
 use Rattle.connector.specs.Send as send
 use Rattle.connector.specs.Send.{sameFields, runOf}
 use Rattle.connector.specs.Step.{alsoTold}
-use Rattle.connector.specs.Pass.{passing, passingRun, after, doneOf}
+use Rattle.connector.specs.Pass.{passing, passingRun, passingLamp, after, doneOf}
 use Rattle.connector.specs.Carrier as carried
-use Rattle.shown.proofs.Known.{Known, transmits, withSending, withMode, sameCommand, told, withReading, dueOf}
+use Rattle.shown.proofs.Known.{Known, transmits, withSending, withLamp, withMode, sameCommand, told, withReading, dueOf}
 
 -- ---- the record
 
@@ -51,8 +56,9 @@ runAt s t = record { fields = s .fields; count = length (s .pairs); pace = paceA
 
 -- a connector that has this on air; an idle one has no owner
 abbrev pub shownAs : ℕ → Known → Option Transmission → Connector
-shownAs t x none = record { owner = Nobody; mode = x .mode; contact = x .contact; sending = Idle }
-shownAs t x (some s) = record { owner = x .owner; mode = x .mode; contact = x .contact; sending = Running (runAt s t) }
+shownAs t x none = record { owner = Nobody; mode = x .mode; contact = x .contact; sending = Idle; lamp = shownAt (x .lamp) t }
+shownAs t x (some s) =
+    record { owner = x .owner; mode = x .mode; contact = x .contact; sending = Running (runAt s t); lamp = shownAt (x .lamp) t }
 
 -- a connector at a moment
 abbrev pub shown : ℕ → Known → Connector
@@ -62,6 +68,11 @@ shown t x = shownAs t x (until t (x .sending))
 abbrev pub FitFor : ℕ → Option Transmission → Type 0
 FitFor t none = Unit
 FitFor t (some s) = Fit s t
+
+-- time passes
+pub fit-after : (t u : ℕ) (o : Option Transmission) → t ≤ u → FitFor t o → FitFor u o
+fit-after t u none h g = tt
+fit-after t u (some s) h g = let e : t + (u - t) ≡ u = omega arith in subst (Fit s) e (fit-later g (u - t))
 
 -- and its counts are kept
 abbrev pub HeldIn : List ℕ → Option Transmission → Type 0
@@ -101,6 +112,22 @@ module _ (t : ℕ) (x : Known) where
   pub sensor-shown : isSensor (shown t x .mode) ≡ isSensor (x .mode)
   sensor-shown = ap isSensor mode-shown
 
+  -- whether it is a lamp, and whether it is silent
+  pub lighting-shown : isLighting (shown t x .mode) ≡ isLighting (x .mode)
+  lighting-shown = ap isLighting mode-shown
+
+  pub silent-shown : isSilent (shown t x .mode) ≡ isSilent (x .mode)
+  silent-shown = ap isSilent mode-shown
+
+  -- the lamp, whatever is on air
+  lamp-as : (o : Option Transmission) → shownAs t x o .lamp ≡ shownAt (x .lamp) t
+  lamp-as none = refl
+  lamp-as (some s) = refl
+
+  -- the lamp is the record's
+  pub lamp-shown : shown t x .lamp ≡ shownAt (x .lamp) t
+  lamp-shown = lamp-as (until t (x .sending))
+
   -- the contact, whatever is on air
   contact-as : (o : Option Transmission) → shownAs t x o .contact ≡ x .contact
   contact-as none = refl
@@ -123,14 +150,14 @@ module _ (t : ℕ) (x : Known) where
 -- a mode set while nothing is on air
 pub with-mode-shown : (t : ℕ) (x : Known) (mode : Mode) → transmits t x ≡ false
     → shown t (withMode x mode) ≡ change.withMode (shown t x) mode
-unfolding change.withMode
+unfolding change.withMode shownAt
 with-mode-shown t x mode e =
-    cond-map (shown t) (sameMode (x .mode) mode) x (record { owner = x .owner; mode = mode; contact = Unread; sending = x .sending })
+    cond-map (shown t) (sameMode (x .mode) mode) x (record { owner = x .owner; mode = mode; contact = Unread; sending = x .sending; lamp = dark })
     ∙ go (until t (x .sending)) e
   where
     go : (o : Option Transmission) → isSome o ≡ false
         → cond (sameMode (x .mode) mode) (shownAs t x o)
-        (shownAs t (record { owner = x .owner; mode = mode; contact = Unread; sending = x .sending }) o)
+        (shownAs t (record { owner = x .owner; mode = mode; contact = Unread; sending = x .sending; lamp = dark }) o)
         ≡ change.withMode (shownAs t x o) mode
     go none e = refl
     go (some s) e = not-both refl e
@@ -142,6 +169,17 @@ with-reading-shown t x value = go (until t (x .sending))
     go : (o : Option Transmission) → shownAs t (withReading x value) o ≡ change.withReading (shownAs t x o) value
     go none = refl
     go (some s) = refl
+
+-- the lamp turned
+pub with-lamp-shown : (t : ℕ) (x : Known) (target ramp : ℕ)
+    → shown t (withLamp x (turned (x .lamp) target ramp t)) ≡ change.withLamp (shown t x) (lamp.turned (shownAt (x .lamp) t) target ramp)
+with-lamp-shown t x target ramp = go (until t (x .sending))
+  where
+    go : (o : Option Transmission)
+        → shownAs t (withLamp x (turned (x .lamp) target ramp t)) o
+        ≡ change.withLamp (shownAs t x o) (lamp.turned (shownAt (x .lamp) t) target ramp)
+    go none = rw (turned-shown (x .lamp) t target ramp)
+    go (some s) = rw (turned-shown (x .lamp) t target ramp)
 
 -- all stopped
 pub stopped-shown : (t : ℕ) (x : Known) → shown t (withSending x Nobody none) ≡ change.stopped (shown t x)
@@ -228,6 +266,43 @@ verdict-shown kept t connection x f ps = go (until t (x .sending))
     go (some s) h = rw (same-shown kept t s f ps h)
 
 -- ---- a wait
+
+-- What is fit at a moment: a transmission, and a lamp that got its target by then and is dark while something is on air.
+pub record Fits (t : ℕ) (x : Known) : Type 0 where
+  pub sends : FitFor t (x .sending)
+  pub begun : x .lamp .since ≤ t
+  pub unlit : (s : Transmission) → until t (x .sending) ≡ some s → x .lamp ≡ dark
+
+-- what is on air later is on air now
+on-air-before : (t n : ℕ) (o : Option Transmission) → FitFor t o → (s : Transmission) → until (t + n) o ≡ some s → until t o ≡ some s
+on-air-before t n none g s e = e
+on-air-before t n (some r) g s e =
+    by-test (complete r t) (λ f. absurd (none-some (sym (rw (complete-later g n f)) ∙ e))) (λ f. rw f (same r e))
+  where
+    none-some : none ≡ some s → ⊥
+    none-some e = let z : _≡_ {A = ℕ} 0 1 = cc in omega arith
+
+    same : (r : Transmission) → until (t + n) (some r) ≡ some s → some r ≡ some s
+    same r e = by-test (complete r (t + n)) (λ f. absurd (none-some (sym (rw f) ∙ e))) (λ f. sym (rw f) ∙ e)
+
+-- a wait leaves all fit
+pub fits-later : {t : ℕ} {x : Known} (n : ℕ) → Fits t x → Fits (t + n) x
+fits-later {t} {x} n g =
+    record {
+      sends = fit-after t (t + n) (x .sending) (omega arith) (g .sends);
+      begun = omega (arith, g .begun);
+      unlit = λ s e. g .unlit s (on-air-before t n (x .sending) (g .sends) s e);
+    }
+
+-- where nothing is transmitted the lamp goes on, and nothing is complete
+lit-after : (c : Connector) (n : ℕ) → after c (passingLamp c n) ≡ change.withLamp c (lamp.passed (c .lamp) n)
+unfolding passingLamp
+lit-after c n = by-test (eqb (c .lamp .gap .0) 0) (λ e. rw e (ap (change.withLamp c) (sym (at-rest (c .lamp) n e)))) (λ e. rw e)
+
+lit-done : (c : Connector) (n : ℕ) → doneOf (passingLamp c n) ≡ []
+unfolding passingLamp
+lit-done c n = by-test (eqb (c .lamp .gap .0) 0) (λ e. rw e) (λ e. rw e)
+
 module _ (t n : ℕ) (place : Place) (x : Known) where
   -- n microseconds later the record shows this, and completes what is due
   abbrev Passes : Option Transmission → Option Transmission → Type 0
@@ -235,9 +310,10 @@ module _ (t n : ℕ) (place : Place) (x : Known) where
       (after (shownAs t x o) (passing (shownAs t x o) place n) ≡ shownAs (t + n) x p)
       × (doneOf (passing (shownAs t x o) place n) ≡ dueOf t n place x o)
 
-  -- so of a transmission that runs
-  runs : (s : Transmission) → Fit s t → complete s t ≡ false → Passes (some s) (until (t + n) (some s))
-  runs s g e = rw (passed-is g e n) (by (complete s (t + n)))
+  -- so of a transmission that runs, with the lamp dark
+  runs : (s : Transmission) → Fit s t → complete s t ≡ false → shownAt (x .lamp) t ≡ shownAt (x .lamp) (t + n)
+      → Passes (some s) (until (t + n) (some s))
+  runs s g e same = rw (passed-is g e n) (by (complete s (t + n)))
     where
       by : (v : Bool)
           → (after (shownAs t x (some s)) (passingRun (shownAs t x (some s)) place (runAt s t)
@@ -246,20 +322,31 @@ module _ (t n : ℕ) (place : Place) (x : Known) where
           × (doneOf (passingRun (shownAs t x (some s)) place (runAt s t)
           (cond v (passed.Complete (micros (finish s - t))) (passed.Running (paceAt s (t + n)))))
           ≡ cond v (record { owner = x .owner; moment = micros (finish s - t); place = place; id = s .fields .id } ∷ []) [])
-      by true = (refl, refl)
-      by false = (refl, refl)
+      by true = (rw same, refl)
+      by false = (rw same, refl)
+
+  -- so of a lamp
+  lights : x .lamp .since ≤ t → Passes none none
+  lights begun =
+      (lit-after (shownAs t x none) n ∙ ap (change.withLamp (shownAs t x none)) (lamp-passed (x .lamp) t n begun), lit-done (shownAs t x none) n)
+
+  -- a dark one shows the same at any moment
+  dark-same : x .lamp ≡ dark → shownAt (x .lamp) t ≡ shownAt (x .lamp) (t + n)
+  unfolding shownAt
+  dark-same e = rw e
 
   -- so of whatever was started last
-  pub passed-shown : FitFor t (x .sending) → Passes (until t (x .sending)) (until (t + n) (x .sending))
-  passed-shown = go (x .sending)
+  pub passed-shown : Fits t x → Passes (until t (x .sending)) (until (t + n) (x .sending))
+  passed-shown f = go (x .sending) (f .sends) (f .unlit)
     where
-      go : (o : Option Transmission) → FitFor t o → Passes (until t o) (until (t + n) o)
-      go none g = (refl, refl)
-      go (some s) g = by (complete s t) refl
+      go : (o : Option Transmission) → FitFor t o → ((s : Transmission) → until t o ≡ some s → x .lamp ≡ dark)
+          → Passes (until t o) (until (t + n) o)
+      go none g u = lights (f .begun)
+      go (some s) g u = by (complete s t) refl
         where
           by : (v : Bool) → complete s t ≡ v → Passes (cond v none (some s)) (until (t + n) (some s))
-          by true e = rw (complete-later g n e) (refl, refl)
-          by false e = runs s g e
+          by true e = rw (complete-later g n e) (lights (f .begun))
+          by false e = runs s g e (dark-same (u s (rw e)))
 
 -- ---- the carrier
 -- the record's carrier is the transmission's

@@ -17,17 +17,17 @@ use Rattle.meaning.specs.Line.{is}
 use Rattle.words.specs.Pairs.{countsOf}
 use Rattle.meaning.specs.Time.{Transmission, complete}
 use Rattle.meaning.specs.Log as log
-use Rattle.meaning.specs.Log.{Deed, setting, event, changed, started, renewed, halted, left, now, modeOf, contactOf, relayOf, lastOf, ownerOf, isOwner, until}
+use Rattle.meaning.specs.Log.{Deed, setting, event, changed, lit, started, renewed, halted, left, now, modeOf, contactOf, lampOf, relayOf, lastOf, ownerOf, isOwner, until}
 use Rattle.meaning.specs.Table.{Judged, deedsOf, isSame, Call, line, overlong, reading, closing, waiting, judge, logged, logOf}
 use Rattle.request.specs.declared.mode.Mode.{Mode}
-use Rattle.request.specs.declared.mode.Mode.the-variants.{Ir, Sensor, IrBlaster}
+use Rattle.request.specs.declared.mode.Mode.the-variants.{Ir, Sensor, IrBlaster, LedLighting}
 use Rattle.request.specs.declared.Ask.{Ask}
 use Rattle.request.specs.declared.Ask.the-variants as ask
 use Rattle.request.specs.declared.Turn.{Turn}
 use Rattle.request.specs.declared.Turn.the-variants as turn
 use Rattle.request.specs.declared.Request.{Request}
 use Rattle.request.specs.declared.Request.the-variants as request
-use Rattle.request.specs.Mode.{modeWord, isSensor}
+use Rattle.request.specs.Mode.{modeWord, isSensor, isLighting, isSilent}
 use Rattle.request.specs.Request.{readRequest}
 use Rattle.command.specs.Read.{CommandReading, sent, faulty, commandAt}
 use Rattle.store.specs.Store.{alike}
@@ -37,8 +37,9 @@ use Rattle.connector.specs.declared.Contact.{Contact}
 use Rattle.connector.specs.declared.Contact.the-variants.{Unread, Read}
 use Rattle.connector.specs.Change.{sameMode, owns, ownerLeft}
 use Rattle.connector.specs.Send.{sameFields}
-use Rattle.reads.specs.Meant.{sensorAt, meantCommand, meantRead, meantAsk, meantTurn, meant}
-use Rattle.reads.proofs.Cursor.{modeIn, sensor-is}
+use Rattle.theorems.specs.Deeds.{inSensor, inLighting, silent}
+use Rattle.reads.specs.Meant.{meantCommand, meantRead, meantAsk, meantTurn, meant}
+use Rattle.reads.proofs.Cursor.{modeIn, sensor-is, lighting-is, silent-is}
 use Rattle.reads.proofs.Rows.{line-is}
 use Rattle.shown.proofs.Known as known
 use Rattle.shown.proofs.Known.{Known, withSending, sameCommand, commanded, sentTo, asked, knownAfter, relaysAfter, readAs}
@@ -57,7 +58,8 @@ contactIn (some value) = Read value
 
 -- what the log shows at a port
 abbrev pub view : List Deed → ℕ → Known
-view l p = record { owner = ownerIn (ownerOf p l); mode = modeIn (modeOf p l); contact = contactIn (contactOf p l); sending = lastOf p l }
+view l p =
+    record { owner = ownerIn (ownerOf p l); mode = modeIn (modeOf p l); contact = contactIn (contactOf p l); sending = lastOf p l; lamp = lampOf p l }
 
 -- every logged mode is a mode word
 abbrev pub Worded : List Deed → Type 0
@@ -71,6 +73,7 @@ unfolding modeIn
 mode-back Ir = refl
 mode-back Sensor = refl
 mode-back IrBlaster = refl
+mode-back LedLighting = refl
 
 -- modes are the same where their words are
 mode-same : (w : List ℕ) (mode : Mode) → modeWord (modeIn w) ≡ w → same w (modeWord mode) ≡ sameMode (modeIn w) mode
@@ -80,12 +83,19 @@ mode-same w mode e = ap (λ (v : List ℕ). same v (modeWord mode)) (sym e) ∙ 
     go Ir Ir = refl
     go Ir Sensor = refl
     go Ir IrBlaster = refl
+    go Ir LedLighting = refl
     go Sensor Ir = refl
     go Sensor Sensor = refl
     go Sensor IrBlaster = refl
+    go Sensor LedLighting = refl
     go IrBlaster Ir = refl
     go IrBlaster Sensor = refl
     go IrBlaster IrBlaster = refl
+    go IrBlaster LedLighting = refl
+    go LedLighting Ir = refl
+    go LedLighting Sensor = refl
+    go LedLighting IrBlaster = refl
+    go LedLighting LedLighting = refl
 
 -- who owns is told alike
 pub owner-is : (connection : ℕ) (o : Option ℕ) → isOwner connection o ≡ owns (ownerIn o) connection
@@ -152,12 +162,17 @@ module _ (l : List Deed) (connection : ℕ) (s : List ℕ) (p : ℕ) where
       (by-test (sameMode (modeIn (modeOf p l)) mode) (λ f. rw f) (λ f. rw (f, here, mode-back mode))))
   ask-here words ask.GetMode = refl
   ask-here words ask.GetContact =
-      by-test (sensorAt p l) (λ e. rw e (by-test (isSome (contactOf p l)) (λ f. rw f) (λ f. rw f))) (λ e. rw e)
+      by-test (inSensor p l) (λ e. rw e (by-test (isSome (contactOf p l)) (λ f. rw f) (λ f. rw f))) (λ e. rw e)
   ask-here words (ask.Send at) =
-      rw (sensor-is (modeOf p l))
-      (by-test (isSensor (modeIn (modeOf p l))) (λ f. rw f) (λ f. rw f (read-here (commandAt s at))))
+      rw (silent-is (modeOf p l))
+      (by-test (isSilent (modeIn (modeOf p l))) (λ f. rw f) (λ f. rw f (read-here (commandAt s at))))
   ask-here words ask.Stop =
-      rw (sensor-is (modeOf p l)) (by-test (isSensor (modeIn (modeOf p l))) (λ e. rw e) (λ e. rw (e, here)))
+      rw (silent-is (modeOf p l)) (by-test (isSilent (modeIn (modeOf p l))) (λ e. rw e) (λ e. rw (e, here)))
+  ask-here words (ask.SetLamp target ramp more) =
+      rw (lighting-is (modeOf p l))
+      (by-test (isLighting (modeIn (modeOf p l))) (λ e. rw e (by-test more (λ f. rw f) (λ f. rw (f, here)))) (λ e. rw e))
+  ask-here words (ask.GetLamp more) =
+      by-test (inLighting p l) (λ e. rw e (by-test more (λ f. rw f) (λ f. rw f))) (λ e. rw e)
 
 -- ---- a request, at any other
 
@@ -165,6 +180,7 @@ module _ (l : List Deed) (connection : ℕ) (s : List ℕ) (p : ℕ) where
 data On (q : ℕ) : List Deed → Type 0 where
   nothing : On q []
   turns : (mode : Mode) → On q (setting q (changed (modeWord mode)) ∷ [])
+  lights : {target ramp : ℕ} → On q (setting q (lit target ramp) ∷ [])
   starts : {c : ℕ} {f : Fields} {ps : List Pair} → On q (event (started q c f ps) ∷ [])
   renews : On q (event (renewed q) ∷ [])
   halts : On q (event (halted q) ∷ [])
@@ -173,6 +189,7 @@ data On (q : ℕ) : List Deed → Type 0 where
 on-other : {q : ℕ} {ds : List Deed} (l : List Deed) (p : ℕ) → On q ds → eqb q p ≡ false → view (ds ++ l) p ≡ view l p
 on-other l p nothing e = refl
 on-other l p (turns mode) e = rw e
+on-other l p lights e = rw e
 on-other l p starts e = rw e
 on-other l p renews e = rw e
 on-other l p halts e = rw e
@@ -181,6 +198,7 @@ on-other l p halts e = rw e
 on-now : {q : ℕ} {ds : List Deed} (l : List Deed) → On q ds → now (ds ++ l) ≡ now l
 on-now l nothing = refl
 on-now l (turns mode) = refl
+on-now l lights = refl
 on-now l starts = refl
 on-now l renews = refl
 on-now l halts = refl
@@ -189,6 +207,7 @@ on-now l halts = refl
 on-relay : {q : ℕ} {ds : List Deed} (l : List Deed) (p : ℕ) → On q ds → relayOf p (ds ++ l) ≡ relayOf p l
 on-relay l p nothing = refl
 on-relay l p (turns mode) = refl
+on-relay l p lights = refl
 on-relay l p starts = refl
 on-relay l p renews = refl
 on-relay l p halts = refl
@@ -198,6 +217,7 @@ on-mode : {q : ℕ} {ds : List Deed} (l : List Deed) → On q ds → Worded l �
 on-mode l nothing words p = words p
 on-mode {q} l (turns mode) words p =
     cond-case (λ (w : List ℕ). modeWord (modeIn w) ≡ w) (eqb q p) _ _ (λ _. ap modeWord (mode-back mode)) (λ _. words p)
+on-mode l lights words p = words p
 on-mode l starts words p = words p
 on-mode l renews words p = words p
 on-mode l halts words p = words p
@@ -222,10 +242,14 @@ module _ (l : List Deed) (connection : ℕ) (s : List ℕ) (q : ℕ) where
       (λ _. cond-case (On q) (same (modeOf q l) (modeWord mode)) _ _ (λ _. nothing) (λ _. turns mode))
   ask-on ask.GetMode = nothing
   ask-on ask.GetContact =
-      cond-case OnIt (not (sensorAt q l)) _ _ (λ _. nothing) λ _.
+      cond-case OnIt (not (inSensor q l)) _ _ (λ _. nothing) λ _.
       cond-case OnIt (not (isSome (contactOf q l))) _ _ (λ _. nothing) (λ _. nothing)
-  ask-on (ask.Send at) = cond-case OnIt (sensorAt q l) _ _ (λ _. nothing) (λ _. read-on (commandAt s at))
-  ask-on ask.Stop = cond-case OnIt (sensorAt q l) _ _ (λ _. nothing) (λ _. halts)
+  ask-on (ask.Send at) = cond-case OnIt (silent q l) _ _ (λ _. nothing) (λ _. read-on (commandAt s at))
+  ask-on ask.Stop = cond-case OnIt (silent q l) _ _ (λ _. nothing) (λ _. halts)
+  ask-on (ask.SetLamp target ramp more) =
+      cond-case OnIt (not (inLighting q l)) _ _ (λ _. nothing) λ _. cond-case OnIt more _ _ (λ _. nothing) (λ _. lights)
+  ask-on (ask.GetLamp more) =
+      cond-case OnIt (not (inLighting q l)) _ _ (λ _. nothing) λ _. cond-case OnIt more _ _ (λ _. nothing) (λ _. nothing)
 
 -- ---- what a request makes of what the log shows
 

@@ -29,6 +29,7 @@ use Rattle.history.specs.Heard.{completionOut}
 use Rattle.history.specs.Run.{Called, called, run}
 use Rattle.history.specs.Waiting.{movedBy, Reached, reached, at, afterwards, Composes, ChangesNothing}
 use Rattle.reads.proofs.Cursor.{modeIn}
+use Rattle.lamp.proofs.Meaning.{shownAt}
 use Rattle.shown.proofs.Known.{Known, dueOf}
 use Rattle.shown.proofs.Shown.{Fits, fits-later}
 use Rattle.history.proofs.Agrees.{hubOf}
@@ -66,7 +67,7 @@ past hub store (call ∷ l) p =
 
 -- every hub that calls reach from a fresh one is such a hub
 past-fresh : (store : List ℕ) → length store ≡ 1560 → (calls : List Call) → Past (reached freshHub store calls)
-unfolding modeIn
+unfolding modeIn shownAt
 past-fresh store size calls =
     past freshHub store calls (record { history = []; hub = refl; stored = record { size = size; held = λ slot h. tt } })
 
@@ -115,7 +116,7 @@ module _ (t : ℕ) (K : ℕ → Known) (R : ℕ → ℕ) (fit : (p : ℕ) → Fi
       ∙ sym (wait-leaves t K R fit store (a + b) short) in
       record {
         completions =
-            wait-gives t K R fit store (a + b) short ∙ completions-add t K fit a b
+            wait-gives t K R fit store (a + b) short ∙ completions-add t K (λ p. fit p .sends) a b
             ∙ ap₂ (λ (x y : List Completion). x ++ map (movedBy a) y) (sym (wait-gives t K R fit store a (omega arith)))
             (sym (ap (λ (r : Reached). at r (waiting b) .completions) first ∙ wait-gives (t + a) K R later store b (omega arith)));
         hub = hubs;

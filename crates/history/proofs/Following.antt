@@ -29,6 +29,7 @@ use Rattle.history.specs.Heard.{answerOut}
 use Rattle.history.specs.Run.{Called, afterChange, called, run}
 use Rattle.reads.proofs.Rows.{line-is}
 use Rattle.reads.proofs.Cursor.{modeIn}
+use Rattle.lamp.proofs.Meaning.{shownAt}
 use Rattle.shown.proofs.Known.{Known, errorLine}
 use Rattle.history.proofs.Agrees.{hubOf, Stored, Means, unmoved, hub-alike, stored-alike, means-alike}
 use Rattle.history.proofs.Asking.{asked-means}
@@ -176,5 +177,5 @@ followed h (call ∷ l) store st =
 
 -- whatever the store holds at first
 pub from-fresh : (store : List ℕ) → length store ≡ 1560 → (calls : List Call) → run freshHub store calls ≡ said [] calls
-unfolding modeIn
+unfolding modeIn shownAt
 from-fresh store size calls = followed [] calls store (record { size = size; held = λ slot h. tt })

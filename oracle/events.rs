@@ -1,10 +1,12 @@
 //! A script of the bench as frames for the port: its lines cut into pieces with other connections' pieces in between,
-//! the carriers asked for after each call, and frames of other forms among them. The lines end in the script's order,
-//! so the moments that a script aims at are met here too. A wait may be told in parts, which end where a carrier goes
-//! on or off; to find these, the oracle's hub runs beside what is written.
+//! the carriers asked for after each call and the levels after every other, and frames of other forms among them. The
+//! lines end in the script's order, so the moments that a script aims at are met here too. A wait may be told in parts,
+//! which end where a carrier goes on or off or a lamp passes a percent; to find these, the oracle's hub runs beside
+//! what is written.
 
 use super::random::Random;
-use super::scripts::hub::{Hub, Periods};
+use super::scripts::hub::{Hub, Moment, Periods};
+use super::scripts::percents_ahead;
 use std::ops::Range;
 
 const CR: u8 = b'\r';
@@ -131,11 +133,11 @@ impl Frames {
 
     /// A frame of another form, or a piece of a connection that there is not.
     fn another_form(&mut self) {
-        let kind = self.random.pick(b"bbxrwcdqBsf!\0\n\xff ");
+        let kind = self.random.pick(b"bbxrwcldqBsf!L\0\n\xff ");
         let connection = self.random.pick(&[0, 1, 2, 7, 8, 9, 255]);
         let connection = if kind == b'b' { connection.max(8) } else { connection };
         let right = match kind {
-            b'x' | b'c' | b'd' => Some(0),
+            b'x' | b'c' | b'l' | b'd' => Some(0),
             b'r' => Some(1),
             b'w' => Some(4),
             _ => None,
@@ -190,17 +192,29 @@ impl Frames {
         self.pass(left);
     }
 
-    /// How long it is to some end of an on or off count that is being transmitted, or to a microsecond before or after.
+    /// How long it is to an edge of some connector's carrier or level, or to a microsecond before or after.
     fn edge(&mut self) -> Option<u32> {
         let port = self.random.between(1, 3);
+        let edge = self.end_of_a_count(port).or_else(|| self.passing_of_a_percent(port))?;
+        let moment = edge.0 + self.random.pick(&[0, 1, 1, 2]);
+        let after = moment.checked_sub(self.hub.now.0 + 1)?;
+        u32::try_from(after).ok()
+    }
+
+    /// The end of some on or off count that is being transmitted.
+    fn end_of_a_count(&mut self, port: u64) -> Option<Moment> {
         let sending = self.hub.connector(port).sending()?;
         let finished = sending.copies_finished(self.hub.now);
         let copy = &sending.copies[finished..][self.random.pick(&[0, 0, 1]).min(sending.copies.len() - finished - 1)];
         let counts = self.random.between(1, copy.counts.len() as u64) as usize;
         let place = Periods(copy.begins.0 + copy.counts[..counts].iter().map(|count| u128::from(*count)).sum::<u128>());
-        let moment = sending.first_moment_at(place).0 + self.random.pick(&[0, 1, 1, 2]);
-        let after = moment.checked_sub(self.hub.now.0 + 1)?;
-        u32::try_from(after).ok()
+        Some(sending.first_moment_at(place))
+    }
+
+    fn passing_of_a_percent(&mut self, port: u64) -> Option<Moment> {
+        let ahead = percents_ahead(&self.hub.connector(port).lamp()?, self.hub.now);
+        ahead.first()?;
+        Some(self.random.pick(&ahead))
     }
 
     // ---- The whole
@@ -208,6 +222,9 @@ impl Frames {
     fn ask(&mut self) {
         let connection = self.random.pick(&[0, 0, 3, 255]);
         self.frame(b'c', connection, b"");
+        if self.random.one_in(2) {
+            self.frame(b'l', connection, b"");
+        }
         if self.random.one_in(4) {
             self.frame(b'd', connection, b"");
         }

@@ -102,11 +102,20 @@ fn split(mut bytes: &[u8]) -> Vec<&[u8]> {
 }
 
 /// What every check has to reach.
-const AIMS: [&str; 18] = [
+const AIMS: [&str; 24] = [
     "reply", "device list", "015", "stopir to another", "completion", "completion for nobody", "completions together",
-    "connector transmits", "connector idle", "relay", "carrier on", "carriers off", "due", "nothing due", "!0", "!102",
-    "!103", "!104",
+    "connector transmits", "connector idle", "lamp dark", "lamp set", "relay", "carrier on", "carriers off", "all dark",
+    "one lit", "several lit", "full level", "due", "nothing due", "!0", "!102", "!103", "!104",
 ];
+
+fn aim_of_levels(levels: &[u8]) -> &'static str {
+    match levels.iter().filter(|level| **level > 0).count() {
+        0 => "all dark",
+        _ if levels.contains(&100) => "full level",
+        1 => "one lit",
+        _ => "several lit",
+    }
+}
 
 /// What an answer is, behind the one before it.
 fn aim(before: &[u8], frame: &[u8]) -> &'static str {
@@ -121,9 +130,12 @@ fn aim(before: &[u8], frame: &[u8]) -> &'static str {
         b'f' => "completion",
         b's' if bytes[0] == 2 => "relay",
         b's' if bytes[3] == 1 => "connector transmits",
+        b's' if bytes[2] == 3 && bytes[6] == 0 => "lamp dark",
+        b's' if bytes[2] == 3 => "lamp set",
         b's' => "connector idle",
         b'c' if bytes.contains(&1) => "carrier on",
         b'c' => "carriers off",
+        b'l' => aim_of_levels(bytes),
         b'd' if bytes.is_empty() => "nothing due",
         b'd' => "due",
         b'!' => match bytes {

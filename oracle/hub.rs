@@ -1,5 +1,5 @@
 //! The oracle: a second hub, to be compared with the bench byte for byte. It was written from document 01 and its settled readings, and changed
-//! by request 2 of document 02, by hands that had not seen the proved code, and in another style: moments are absolute, fractions exact,
+//! by requests 2 and 3 of document 02, by hands that had not seen the proved code, and in another style: moments are absolute, fractions exact,
 //! waveforms written out copy by copy, and nothing that happened is forgotten; the present state is read off the history. Words in quotation
 //! marks are document 01's where nothing else is said.
 //! The program reads the bench's script on standard input and prints the bench's output.
@@ -25,6 +25,22 @@ pub struct Done {
 impl Done {
     pub fn reaches(&self, place: Periods) -> bool {
         self.top >= place.0 * self.bottom
+    }
+}
+
+/// A lamp's exact level in hundred-thousandths of a percent: "ramp r moves r percent in each 100,000 us" (document 02, request 3), so it moves r
+/// of these in each microsecond, and a level at a whole microsecond is a whole number of them.
+#[derive(Clone, Copy, PartialEq, Eq, PartialOrd, Ord)]
+pub struct Level(pub u128);
+
+impl Level {
+    pub fn of_percent(percent: u64) -> Level {
+        Level(u128::from(percent) * 100_000)
+    }
+
+    /// Document 02, request 3: "the level shown is the exact one rounded down."
+    pub fn shown(self) -> u64 {
+        (self.0 / 100_000) as u64
     }
 }
 
@@ -273,6 +289,41 @@ impl Sending {
     }
 }
 
+// ---- Lamps
+
+/// A lamp since it was last told something: the level it had then, and where it goes from there. The target is in percent, the ramp in percent for
+/// each 100,000 us.
+#[derive(Clone, Copy)]
+pub struct Lamp {
+    pub told: Moment,
+    pub from: Level,
+    pub target: u64,
+    pub ramp: u64,
+}
+
+impl Lamp {
+    /// Document 02, request 3: "A connector entering this mode is at 0 with target 0."
+    fn dark(told: Moment) -> Lamp {
+        Lamp { told, from: Level(0), target: 0, ramp: 0 }
+    }
+
+    pub fn goal(&self) -> Level {
+        Level::of_percent(self.target)
+    }
+
+    /// Document 02, request 3: "Ramp 0 is instant. Ramp r moves [...] exactly and without steps, and stops at the target".
+    pub fn level_at(&self, moment: Moment) -> Level {
+        let (goal, moved) = (self.goal(), (moment.0 - self.told.0) * u128::from(self.ramp));
+        if self.ramp == 0 || moved >= self.from.0.abs_diff(goal.0) {
+            goal
+        } else if self.from < goal {
+            Level(self.from.0 + moved)
+        } else {
+            Level(self.from.0 - moved)
+        }
+    }
+}
+
 // ---- Connectors
 
 #[derive(Clone, Copy, PartialEq)]
@@ -280,17 +331,24 @@ pub enum Mode {
     Ir,
     Sensor,
     IrBlaster,
+    LedLighting,
 }
 
 impl Mode {
-    const ALL: [Mode; 3] = [Mode::Ir, Mode::Sensor, Mode::IrBlaster];
+    const ALL: [Mode; 4] = [Mode::Ir, Mode::Sensor, Mode::IrBlaster, Mode::LedLighting];
 
     fn word(self) -> &'static str {
         match self {
             Mode::Ir => "IR",
             Mode::Sensor => "SENSOR",
             Mode::IrBlaster => "IR_BLASTER",
+            Mode::LedLighting => "LED_LIGHTING",
         }
+    }
+
+    /// 013: "sendir or stopir to a connector in SENSOR"; document 02, request 3, of a lamp: "sendir and stopir there get 013."
+    pub fn can_transmit(self) -> bool {
+        matches!(self, Mode::Ir | Mode::IrBlaster)
     }
 
     fn of_word(word: &[u8]) -> Option<Mode> {
@@ -301,6 +359,7 @@ impl Mode {
 pub enum Note {
     ModeChanged(Mode),
     ContactRead(u64),
+    LampSet(Lamp),
 }
 
 /// A connector is its diary and everything it ever sent.
@@ -315,7 +374,7 @@ impl Connector {
     pub fn mode(&self) -> Mode {
         let last = self.diary.iter().rev().find_map(|(_, note)| match note {
             Note::ModeChanged(mode) => Some(*mode),
-            Note::ContactRead(_) => None,
+            Note::ContactRead(_) | Note::LampSet(_) => None,
         });
         last.unwrap_or(Mode::Ir)
     }
@@ -324,7 +383,16 @@ impl Connector {
     pub fn contact(&self) -> Option<u64> {
         match self.diary.last() {
             Some((_, Note::ContactRead(value))) => Some(*value),
-            Some((_, Note::ModeChanged(_))) | None => None,
+            Some((_, Note::ModeChanged(_) | Note::LampSet(_))) | None => None,
+        }
+    }
+
+    /// The lamp, where there is one: of the notes since the last change of mode, all are settings if that was into this mode.
+    pub fn lamp(&self) -> Option<Lamp> {
+        match self.diary.last() {
+            Some((_, Note::LampSet(lamp))) => Some(*lamp),
+            Some((entered, Note::ModeChanged(Mode::LedLighting))) => Some(Lamp::dark(*entered)),
+            _ => None,
         }
     }
 
@@ -353,6 +421,8 @@ enum Request {
     GetMode,
     SetState,
     GetState,
+    SetLamp,
+    GetLamp,
     Send,
     Stop,
 }
@@ -365,6 +435,8 @@ impl Request {
             b"get_IR" => Some(Request::GetMode),
             b"setstate" => Some(Request::SetState),
             b"getstate" => Some(Request::GetState),
+            b"set_LED_LIGHTING" => Some(Request::SetLamp),
+            b"get_LED_LIGHTING" => Some(Request::GetLamp),
             b"sendir" => Some(Request::Send),
             b"stopir" => Some(Request::Stop),
             _ => None,
@@ -374,7 +446,7 @@ impl Request {
     /// "Module 1 has infrared connectors 1 to 3, module 2 has relays 1 to 3"; "getstate takes 1 or 2".
     fn modules(self) -> &'static [u64] {
         match self {
-            Request::SetMode | Request::GetMode | Request::Send | Request::Stop => &[1],
+            Request::SetMode | Request::GetMode | Request::SetLamp | Request::GetLamp | Request::Send | Request::Stop => &[1],
             Request::SetState => &[2],
             Request::GetState => &[1, 2],
         }
@@ -471,7 +543,8 @@ pub struct Hub {
     pub connectors: [Connector; 3],
     /// The states that each relay was set to, with their moments.
     pub relays: [Vec<(Moment, u64)>; 3],
-    /// Module and port of each line that was carried out: a set_IR, setstate or stopir that got its reply, a sendir that was taken.
+    /// Module and port of each line that was carried out: a set_IR, setstate, set_LED_LIGHTING or stopir that got its reply, a sendir that was
+    /// taken.
     pub carried_out: Vec<(u64, u64)>,
 }
 
@@ -491,6 +564,11 @@ impl Hub {
     /// "Every relay open (0)" in a fresh hub.
     pub fn relay(&self, port: u64) -> u64 {
         self.relays[port as usize - 1].last().map_or(0, |(_, state)| *state)
+    }
+
+    /// The public question for levels: each connector's in percent, 0 where there is no lamp.
+    pub fn levels(&self) -> [u64; 3] {
+        [1, 2, 3].map(|port| self.connector(port).lamp().map_or(0, |lamp| lamp.level_at(self.now).shown()))
     }
 
     /// A request line. Order: "102, 101, 015, 001, 017 for the address, 002, 003, then by request"; the bench lends room enough for no 101.
@@ -534,6 +612,12 @@ impl Hub {
                 let state = if module == 2 { self.relay(port) } else { self.contact(port)? };
                 Ok(reply(from, format!("state,{module}:{port},{state}")))
             }
+            Request::SetLamp => Ok(reply(from, self.set_lamp(port, fields)?)),
+            Request::GetLamp => {
+                let lamp = self.connector(port).lamp().ok_or(23_u32)?;
+                fields.no_more_than(2)?;
+                Ok(reply(from, self.lamp_text(port, &lamp)))
+            }
             Request::Send => self.send(from, port, fields, line),
             Request::Stop => self.stop(from, port, fields),
         }
@@ -572,6 +656,24 @@ impl Hub {
         Ok(format!("state,2:{port},{}", self.relay(port)))
     }
 
+    fn lamp_text(&self, port: u64, lamp: &Lamp) -> String {
+        format!("LED_LIGHTING,1:{port},{},{}", lamp.level_at(self.now).shown(), lamp.target)
+    }
+
+    /// set_LED_LIGHTING, document 02, request 3: "023 for a bad target, bad ramp or a connector not in this mode, then 017 for a surplus."
+    fn set_lamp(&mut self, port: u64, fields: &Fields) -> Result<String, u32> {
+        let target = number_within(fields.get(2), 1, 100).ok_or(23_u32)?;
+        let ramp = number_within(fields.get(3), 0, 10).ok_or(23_u32)?;
+        let before = self.connector(port).lamp().ok_or(23_u32)?;
+        fields.no_more_than(4)?;
+        let now = self.now;
+        // "A new target starts from the exact level."
+        let lamp = Lamp { told: now, from: before.level_at(now), target, ramp };
+        self.connector_mut(port).diary.push((now, Note::LampSet(lamp)));
+        self.carried_out.push((1, port));
+        Ok(self.lamp_text(port, &lamp))
+    }
+
     /// getstate of a connector, after 017: "018, 028".
     fn contact(&self, port: u64) -> Result<u64, u32> {
         let connector = self.connector(port);
@@ -583,7 +685,7 @@ impl Hub {
 
     /// sendir: "013, 004, 005, 006, 007, code faults, 007 for an offset beyond the code, busyIR".
     fn send(&mut self, from: u64, port: u64, fields: &Fields, line: &[u8]) -> Result<Vec<Said>, u32> {
-        if self.connector(port).mode() == Mode::Sensor {
+        if !self.connector(port).mode().can_transmit() {
             return Err(13);
         }
         let command = read_command(fields.get(2), fields.get(3), fields.get(4), fields.get(5), fields.get(6))?;
@@ -611,7 +713,7 @@ impl Hub {
     /// stopir: "017, 013"; its reply, and "the same to the owner of a halted transmission, if another connection".
     fn stop(&mut self, from: u64, port: u64, fields: &Fields) -> Result<Vec<Said>, u32> {
         fields.no_more_than(2)?;
-        if self.connector(port).mode() == Mode::Sensor {
+        if !self.connector(port).mode().can_transmit() {
             return Err(13);
         }
         let mut said = reply(from, format!("stopir,1:{port}"));

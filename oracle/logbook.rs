@@ -1,12 +1,13 @@
-//! The logbook: a second logger, to be compared with the proved one line by line. It was written from documents 01 and 02 (request [1]) alone, by hands
-//! that had not seen the proved code. A reply is taken apart field by field and looked up in a table of what a hub can write; a request is composed from
-//! numbers. Words in quotation marks are the documents'.
+//! The logbook: a second logger, to be compared with the proved one line by line. It was written from documents 01 and 02 (requests [1] and [3]) alone,
+//! by hands that had not seen the proved code. A reply is taken apart field by field and looked up in a table of what a hub can write; a request is
+//! composed from numbers. Words in quotation marks are the documents'.
 //! The program is a filter: `< LINE` asks what the reply LINE is, `> NAME ..` composes a request, `= M P` asks for the average of a place's state lines.
 //! Each line of input gets one line of output, and a line of another form gets `!`.
 
 use std::collections::BTreeMap;
 use std::fmt;
 use std::io::{self, BufRead, BufWriter, Write};
+use std::ops::RangeInclusive;
 
 // ---- Places
 
@@ -69,6 +70,7 @@ enum Reply {
     Busy { place: Place, id: u64 },
     Stop { place: Place },
     Mode { place: Place, mode: &'static str },
+    Lamp { place: Place, level: u64, target: u64 },
     Error { place: Place, number: u64 },
     Version,
     Device { module: u64 },
@@ -83,6 +85,7 @@ impl fmt::Display for Reply {
             Reply::Busy { place, id } => write!(out, "busy {place} {id}"),
             Reply::Stop { place } => write!(out, "stop {place}"),
             Reply::Mode { place, mode } => write!(out, "mode {place} {mode}"),
+            Reply::Lamp { place, level, target } => write!(out, "lamp {place} {level} {target}"),
             Reply::Error { place, number } => write!(out, "error {place} {number:03}"),
             Reply::Version => write!(out, "version"),
             Reply::Device { module } => write!(out, "device {module}"),
@@ -99,6 +102,7 @@ fn read_reply(line: &[u8]) -> Option<Reply> {
         [b"endlistdevices"] => Some(Reply::EndDevices),
         [b"device", module, ports] => read_device(module, ports),
         [b"IR", place, mode] => read_mode(read_place(place)?, mode),
+        [b"LED_LIGHTING", place, level, target] => read_lamp(read_place(place)?, written_number(level)?, written_number(target)?),
         [b"state", place, value] => read_state(read_place(place)?, written_number(value)?),
         [b"completeir", place, id] => read_connector_and_id(place, id).map(|(place, id)| Reply::Complete { place, id }),
         [b"busyIR", place, id] => read_connector_and_id(place, id).map(|(place, id)| Reply::Busy { place, id }),
@@ -124,8 +128,8 @@ fn read_device(module: &[u8], ports: &[u8]) -> Option<Reply> {
     }
 }
 
-/// "Modes IR, SENSOR, IR_BLASTER."
-const MODES: [&str; 3] = ["IR", "SENSOR", BLASTER];
+/// "Modes IR, SENSOR, IR_BLASTER", and request [3]'s.
+const MODES: [&str; 4] = ["IR", "SENSOR", BLASTER, "LED_LIGHTING"];
 const BLASTER: &str = "IR_BLASTER";
 
 fn mode_of(word: &[u8]) -> Option<&'static str> {
@@ -137,6 +141,16 @@ fn read_mode(place: Place, word: &[u8]) -> Option<Reply> {
     let mode = mode_of(word)?;
     let within_reach = place.port == 3 || mode != BLASTER;
     (place.is_connector() && within_reach).then_some(Reply::Mode { place, mode })
+}
+
+/// "A target of 1 to 100."
+const TARGETS: RangeInclusive<u64> = 1..=100;
+
+/// A lamp may be at any level when it gets a target; one that never got a target is at 0.
+fn read_lamp(place: Place, level: u64, target: u64) -> Option<Reply> {
+    let told = TARGETS.contains(&target) && level <= 100;
+    let never_told = (level, target) == (0, 0);
+    (place.is_connector() && (told || never_told)).then_some(Reply::Lamp { place, level, target })
 }
 
 /// A contact that was read, or a relay.
@@ -158,7 +172,7 @@ fn read_error(place: Place, number: u64) -> Option<Reply> {
         1 | 2 | 3 | 15 | 17 => place == Place { module: 0, port: 0 },
         // sendir; 013 is stopir's too
         13 | 4 | 5 | 6 | 7 | 9 | 10 | 20 | 21 | 22 => place.is_connector(),
-        // set_IR and setstate: "mode or relay state not in its list, or missing"
+        // set_IR and setstate: "mode or relay state not in its list, or missing"; set_LED_LIGHTING and get_LED_LIGHTING
         23 => place.is_connector() || place.is_relay(),
         // set_IR: "IR_BLASTER on a connector other than 3"
         14 => place.is_connector() && place.port != 3,
@@ -201,6 +215,8 @@ fn compose(text: &[u8]) -> Option<Result<String, Refusal>> {
         [b"get_IR", m, p] => Some(compose_with_place("get_IR", asked_place(m, p)?, &[INFRARED])),
         [b"setstate", m, p, state] => Some(compose_setstate(asked_place(m, p)?, asked_number(state)?)),
         [b"getstate", m, p] => Some(compose_with_place("getstate", asked_place(m, p)?, &[INFRARED, RELAYS])),
+        [b"set_LED_LIGHTING", m, p, target, ramp] => Some(compose_set_lamp(asked_place(m, p)?, asked_number(target)?, asked_number(ramp)?)),
+        [b"get_LED_LIGHTING", m, p] => Some(compose_with_place("get_LED_LIGHTING", asked_place(m, p)?, &[INFRARED])),
         [b"stopir", m, p] => Some(compose_with_place("stopir", asked_place(m, p)?, &[INFRARED])),
         [b"sendir", ref fields @ ..] => asked_command(fields).map(compose_sendir),
         _ => None,
@@ -229,6 +245,13 @@ fn compose_setstate(place: Place, state: u64) -> Result<String, Refusal> {
     judge_place(place, &[RELAYS])?;
     demand(state <= 1, 23)?;
     Ok(format!("setstate,{place},{state}"))
+}
+
+/// "A target of 1 to 100 and a ramp of 0 to 10."
+fn compose_set_lamp(place: Place, target: u64, ramp: u64) -> Result<String, Refusal> {
+    judge_place(place, &[INFRARED])?;
+    demand(TARGETS.contains(&target) && ramp <= 10, 23)?;
+    Ok(format!("set_LED_LIGHTING,{place},{target},{ramp}"))
 }
 
 /// A sendir asked for, within the limits or not. Its counts are on and off by turns.

@@ -57,15 +57,18 @@ fn replies(first: u64, count: u64, lines: usize, bench: &[String]) -> Vec<u8> {
 
 // ---- A page
 
-const MODES: [&str; 3] = ["IR", "SENSOR", "IR_BLASTER"];
-const OTHER_MODES: [&str; 8] = ["FOO", "ir", "IRx", "I", "IR,", "SENSOR_NOTIFY", "LED_LIGHTING", "IR_BLASTERS"];
+const MODES: [&str; 4] = ["IR", "SENSOR", "IR_BLASTER", "LED_LIGHTING"];
+const OTHER_MODES: [&str; 10] =
+    ["FOO", "ir", "IRx", "I", "IR,", "SENSOR_NOTIFY", "LED", "LED_LIGHTINGS", "led_lighting", "IR_BLASTERS"];
 /// Bytes that a damaged line is likely to be read wrongly with.
 const LIKELY: &[u8] = b"  ,,::0123456789ABIRSTtabcir_-\r\t<>=!";
 
 /// Lines that are near those of a form.
-const OF_ANOTHER_FORM: [&str; 24] = [
+const OF_ANOTHER_FORM: [&str; 29] = [
     "", " ", "<", ">", "=", "= ", "> ", "<state,1:1,1", "<\tLH-01", "=1 1", "= 1", "= 1 1 ", "= 1  1", "= 1 1 1", "= 1:1", " = 1 1", "x 1 1",
     ">  getversion", "> getversion\r", "> getdevices,", "> GETVERSION", "> sendir", "> setstate 2 1", "> set_IR 1 1 ",
+    "> set_LED_LIGHTING 1 1", "> set_LED_LIGHTING 1 1 50", "> set_LED_LIGHTING 1 1 50 ", "> set_LED_LIGHTING 1 1 50 1 1",
+    "> get_LED_LIGHTING 1 1 1",
 ];
 
 fn smallest_count(freq: u64) -> u64 {
@@ -97,7 +100,7 @@ fn address(random: &mut Random, module: u64) -> String {
     }
 }
 
-/// A field of a sendir: mostly good, or one of those about its limits.
+/// A number of a request: mostly good, or one of those about its limits.
 fn field(random: &mut Random, good: u64, limits: &[u64]) -> u64 {
     if random.one_in(8) {
         random.pick(limits)
@@ -154,19 +157,28 @@ fn sendir(random: &mut Random) -> String {
     format!("> sendir {place} {id} {freq} {repeat} {offset} {form}{counts}")
 }
 
+fn set_lamp(random: &mut Random) -> String {
+    let (any_target, any_ramp) = (random.between(1, 100), random.between(0, 10));
+    let place = address(random, 1);
+    let target = field(random, any_target, &[0, 1, 100, 101, 1_000_000, 9_999_999_999]);
+    let ramp = field(random, any_ramp, &[0, 10, 11, 1_000_000, 9_999_999_999]);
+    format!("> set_LED_LIGHTING {place} {target} {ramp}")
+}
+
 fn request(random: &mut Random) -> String {
-    match random.below(12) {
+    match random.below(14) {
         0 => format!("> {}", random.pick(&["getdevices", "getversion"])),
         1 | 2 => {
             let mode = if random.one_in(3) { random.pick(&OTHER_MODES) } else { random.pick(&MODES) };
             format!("> set_IR {} {mode}", address(random, 1))
         }
-        3 => format!("> {} {}", random.pick(&["get_IR", "stopir"]), address(random, 1)),
+        3 => format!("> {} {}", random.pick(&["get_IR", "stopir", "get_LED_LIGHTING"]), address(random, 1)),
         4 => format!("> setstate {} {}", address(random, 2), random.pick(&["0", "1", "01", "2", "10", "9999999999"])),
         5 => {
             let module = random.between(1, 2);
             format!("> getstate {}", address(random, module))
         }
+        6 | 7 => set_lamp(random),
         _ => sendir(random),
     }
 }
@@ -202,9 +214,18 @@ fn shaped_replies() -> Vec<String> {
             lines.extend(["completeir", "busyIR"].map(|name| format!("{name},{place},{id}")));
         }
         lines.extend([MODES.as_slice(), &OTHER_MODES].concat().iter().map(|mode| format!("IR,{place},{mode}")));
+        lines.extend(shaped_levels(place));
         lines.extend([format!("stopir,{place}"), format!("stopir,{place},"), format!("state,{place}"), format!("IR,{place}")]);
     }
     lines
+}
+
+/// Lines of a lamp's reply, with levels and targets within their limits and about them.
+fn shaped_levels(place: &str) -> Vec<String> {
+    let numbers = ["0", "1", "5", "10", "99", "100", "101", "1000", "00", "01", "050", "0100", "-1", "x", "", "18446744073709551617"];
+    let both = numbers.iter().flat_map(|level| numbers.iter().map(move |target| format!("{level},{target}")));
+    let others = ["50", "50,", "50,60,", "50,60,1", "50 60", ",50,60"].map(str::to_string);
+    both.chain(others).map(|numbers| format!("LED_LIGHTING,{place},{numbers}")).collect()
 }
 
 /// The lines of a page, in any order: replies, whole and damaged, requests of every kind and averages between them.
@@ -257,7 +278,7 @@ impl Asked<'_> {
         Some(Asked { name, module, port, rest: plain.collect() })
     }
 
-    /// The numbers of a sendir behind its place: fields, and counts behind the form.
+    /// The numbers of a request behind its place, of a sendir its fields, and the counts behind its form.
     fn numbers(&self) -> Vec<u64> {
         self.rest.iter().filter_map(|item| item.parse().ok()).collect()
     }
@@ -279,7 +300,16 @@ impl Asked<'_> {
         }
     }
 
-    /// What a fresh hub replies to the request.
+    /// The hub to be asked: a fresh one, but with lamps for a request that is for lamps.
+    fn hub(&self) -> Hub {
+        let mut hub = Hub::fresh();
+        if self.name.ends_with("LED_LIGHTING") {
+            (1..=3).for_each(|port| drop(hub.line(0, format!("set_IR,1:{port},LED_LIGHTING").as_bytes())));
+        }
+        hub
+    }
+
+    /// What that hub replies to the request.
     fn reply(&self) -> String {
         let place = format!("{}:{}", self.module, self.port);
         match (self.name, self.module) {
@@ -291,7 +321,21 @@ impl Asked<'_> {
             ("getstate", 1) => self.error("018"),
             ("getstate", _) => format!("0 state,{place},0\n"),
             ("stopir", _) => format!("0 stopir,{place}\n"),
+            ("get_LED_LIGHTING", _) => format!("0 LED_LIGHTING,{place},0,0\n"),
+            ("set_LED_LIGHTING", _) => {
+                let level = if self.rest[1] == "0" { &self.rest[0] } else { "0" };
+                format!("0 LED_LIGHTING,{place},{level},{}\n", self.rest[0])
+            }
             _ => String::new(),
+        }
+    }
+
+    /// The level of the lamp that is asked for, a second after the request: ramp r is then 10 r percent on, if the target is that far.
+    fn level_after_a_second(&self) -> u64 {
+        match (self.name, &self.numbers()[..]) {
+            ("set_LED_LIGHTING", [target, 0]) => *target,
+            ("set_LED_LIGHTING", [target, ramp]) => (10 * ramp).min(*target),
+            _ => 0,
         }
     }
 
@@ -305,19 +349,21 @@ impl Asked<'_> {
         Some(Command { id, freq, repeat: repeat.min(20), offset, pairs }).filter(|_| self.name == "sendir")
     }
 
-    /// The composed request is read by a fresh hub as it was meant.
+    /// The composed request is read by the hub as it was meant.
     fn read_as_meant(&self, request: &str) -> bool {
-        let mut hub = Hub::fresh();
+        let mut hub = self.hub();
         let reply = printed(&hub.line(0, request.as_bytes()));
         let sent = (1..=3).find_map(|port| hub.connector(port).sending().map(|sending| (port, sending.command.clone())));
-        reply == self.reply() && sent == self.command().map(|command| (self.port, command))
+        hub.wait(1_000_000);
+        let dimmed = [1, 2, 3].map(|port| if port == self.port { self.level_after_a_second() } else { 0 });
+        reply == self.reply() && sent == self.command().map(|command| (self.port, command)) && hub.levels() == dimmed
     }
 
     /// The request spelled out gets the number that it was refused with; none if it cannot be spelled in one line.
     fn refused_alike(&self, number: &str) -> Option<bool> {
         let spelled = self.spelled();
         let one_word = self.name != "set_IR" || self.rest[0].bytes().all(|byte| byte.is_ascii_graphic() && byte != b',');
-        (one_word && spelled.len() <= 4_096).then(|| printed(&Hub::fresh().line(0, spelled.as_bytes())) == self.error(number))
+        (one_word && spelled.len() <= 4_096).then(|| printed(&self.hub().line(0, spelled.as_bytes())) == self.error(number))
     }
 }
 
@@ -343,9 +389,9 @@ fn asked(page: &[u8], output: &[u8]) -> Result<BTreeMap<String, u64>, String> {
     Ok(seen)
 }
 
-const TO_BE_SEEN: [&str; 19] = [
-    "getdevices", "getversion", "set_IR", "get_IR", "setstate", "getstate", "sendir", "stopir", "002", "003", "004", "005", "006", "007", "009",
-    "010", "014", "020", "023",
+const TO_BE_SEEN: [&str; 21] = [
+    "getdevices", "getversion", "set_IR", "get_IR", "setstate", "getstate", "sendir", "stopir", "set_LED_LIGHTING", "get_LED_LIGHTING", "002",
+    "003", "004", "005", "006", "007", "009", "010", "014", "020", "023",
 ];
 
 fn check_asked(page: &[u8], output: &[u8]) {

@@ -90,7 +90,7 @@ struct Port {
 /// How many bytes frames of a kind have, other than pieces.
 fn bytes_of(kind: u8) -> Option<usize> {
     match kind {
-        b'x' | b'c' | b'd' => Some(0),
+        b'x' | b'c' | b'l' | b'd' => Some(0),
         b'r' => Some(1),
         b'w' => Some(4),
         _ => None,
@@ -194,10 +194,12 @@ impl Port {
             Mode::Ir => 0,
             Mode::Sensor => 1,
             Mode::IrBlaster => 2,
+            Mode::LedLighting => 3,
         };
         let id = connector.sending().map(|sending| sending.command.id as u16);
         let [high, low] = id.unwrap_or(0).to_be_bytes();
-        vec![1, port as u8, mode, u8::from(id.is_some()), high, low]
+        let target = connector.lamp().map_or(0, |lamp| lamp.target as u8);
+        vec![1, port as u8, mode, u8::from(id.is_some()), high, low, target]
     }
 
     /// A frame other than a piece.
@@ -213,6 +215,7 @@ impl Port {
                 call_frames(connection, &self.hub.wait(u64::from(microseconds)))
             }
             (b'c', []) => frame(b'c', 0, &self.carriers()),
+            (b'l', []) => frame(b'l', 0, &self.hub.levels().map(|percent| percent as u8)),
             (b'd', []) => frame(b'd', 0, &self.due()),
             _ => refusal(connection, 0),
         }

@@ -1,7 +1,7 @@
 //! What a script reaches, seen in the oracle's answers and histories while it runs the script: error numbers, replies, refusals, and the
-//! moments and texts that the generator aims at. A comparison that did not reach all of them shows less than it says.
+//! moments, levels and texts that the generator aims at. A comparison that did not reach all of them shows less than it says.
 
-use crate::scripts::hub::{read_code, script_lines, step, Ending, Hub, Pair, Said, Sending};
+use crate::scripts::hub::{read_code, script_lines, step, Connector, Ending, Hub, Lamp, Level, Moment, Note, Pair, Said, Sending};
 
 const ERRORS: [u32; 20] = [1, 2, 3, 4, 5, 6, 7, 9, 10, 13, 14, 15, 17, 18, 20, 21, 22, 23, 28, 29];
 
@@ -16,6 +16,17 @@ pub struct Step<'a> {
     /// The transmission that the line started or renewed.
     started: Option<&'a Sending>,
     renewed: Option<&'a Sending>,
+    /// The lamps as they were before the line.
+    lamps_before: [Option<Lamp>; 3],
+}
+
+/// A lamp's exact levels about a moment: a microsecond before, then, and a microsecond after.
+struct Course {
+    rises: bool,
+    before: Level,
+    now: Level,
+    after: Level,
+    goal: Level,
 }
 
 impl Step<'_> {
@@ -147,6 +158,98 @@ impl Step<'_> {
             sending.command.pairs.iter().any(|(on, off)| smallest(*on) || smallest(*off))
         })
     }
+
+    // ---- Lamps
+
+    /// The place among the connectors of the one that a line or a reading names.
+    fn connector_index(&self) -> Option<usize> {
+        let port = match self.line.first()? {
+            b'r' => self.numbers()[0],
+            _ => number(self.field(1).strip_prefix(b"1:")?)?,
+        };
+        (1..=3).contains(&port).then(|| port as usize - 1)
+    }
+
+    fn connector(&self) -> Option<&Connector> {
+        Some(&self.hub.connectors[self.connector_index()?])
+    }
+
+    fn lamp(&self) -> Option<Lamp> {
+        self.connector()?.lamp()
+    }
+
+    /// The lamp that a line or a reading names, as it was before.
+    fn lamp_before(&self) -> Option<Lamp> {
+        self.lamps_before[self.connector_index()?]
+    }
+
+    /// A request of that name to a lamp.
+    fn to_a_lamp(&self, name: &str) -> bool {
+        self.field(0) == name.as_bytes() && self.lamp_before().is_some()
+    }
+
+    /// A request of that name to a connector that is no lamp.
+    fn to_no_lamp(&self, name: &str) -> bool {
+        self.field(0) == name.as_bytes() && self.connector_index().is_some() && self.lamp_before().is_none()
+    }
+
+    fn is_under_way(&self, lamp: &Lamp) -> bool {
+        lamp.level_at(self.hub.now) != lamp.goal()
+    }
+
+    /// A request of that name to a lamp that has not reached its target.
+    fn to_a_lamp_under_way(&self, name: &str) -> bool {
+        self.field(0) == name.as_bytes() && self.lamp_before().is_some_and(|lamp| self.is_under_way(&lamp))
+    }
+
+    fn some_lamp_is_under_way(&self) -> bool {
+        self.hub.connectors.iter().filter_map(Connector::lamp).any(|lamp| self.is_under_way(&lamp))
+    }
+
+    /// The course of a lamp that was told to go somewhere by a ramp and whose level was asked for.
+    fn course(&self) -> Option<Course> {
+        let asked = self.says("LED_LIGHTING", "") && self.field(0) == b"get_LED_LIGHTING";
+        let lamp = self.lamp_before().filter(|lamp| asked && lamp.ramp > 0 && lamp.from != lamp.goal())?;
+        let (now, goal) = (self.hub.now.0, lamp.goal());
+        let [before, now, after] = [now.saturating_sub(1).max(lamp.told.0), now, now + 1].map(|moment| lamp.level_at(Moment(moment)));
+        Some(Course { rises: lamp.from < goal, before, now, after, goal })
+    }
+
+    /// A new target, set under way at no whole percent, for a lamp that rises or falls and then does the one or the other.
+    fn set_under_way(&self, rose: bool, rises: bool) -> bool {
+        let (Some(before), true) = (self.lamp_before(), self.says("LED_LIGHTING", "")) else {
+            return false;
+        };
+        let level = before.level_at(self.hub.now);
+        let now = self.lamp().filter(|lamp| lamp.ramp > 0 && lamp.goal() != level);
+        let turned_so = now.is_some_and(|lamp| (before.from < before.goal(), level < lamp.goal()) == (rose, rises));
+        self.to_a_lamp_under_way("set_LED_LIGHTING") && !is_whole(level) && turned_so
+    }
+
+    fn set_at_once_under_way(&self) -> bool {
+        self.to_a_lamp_under_way("set_LED_LIGHTING") && self.says("LED_LIGHTING", "") && self.lamp().is_some_and(|lamp| lamp.ramp == 0)
+    }
+
+    /// 023 to a request of that name with something behind its so many fields, to a connector that is no lamp.
+    fn surplus_refused_for_the_mode(&self, name: &str, fields_before: usize) -> bool {
+        let surplus = self.request.split(|byte| *byte == b',').count() > fields_before;
+        self.error(23) && self.to_no_lamp(name) && surplus
+    }
+
+    /// A lamp that was lit before its mode was left and entered again shows 0.
+    fn forgot_its_level(&self) -> bool {
+        let lit = |connector: &Connector| connector.diary.iter().any(|(_, note)| matches!(note, Note::LampSet(_)));
+        self.says("LED_LIGHTING", ",0,0") && self.connector().is_some_and(lit)
+    }
+}
+
+fn is_whole(level: Level) -> bool {
+    level == Level::of_percent(level.shown())
+}
+
+/// Between two moments the level shown changed, and at neither was the exact one whole.
+fn passed_a_percent(earlier: Level, later: Level) -> bool {
+    earlier.shown() != later.shown() && !is_whole(earlier) && !is_whole(later)
 }
 
 fn number(text: &[u8]) -> Option<u64> {
@@ -194,6 +297,9 @@ pub fn aims() -> Vec<Aim> {
     let mut all: Vec<Aim> = ERRORS.map(|number| aim(format!("error {number:03}"), move |step| step.error(number))).into();
     all.extend(replies());
     all.extend(refusals());
+    all.extend(courses());
+    all.extend(lamps());
+    all.extend(lamp_limits());
     all.extend(moments());
     all.extend(texts());
     all.extend(limits());
@@ -208,6 +314,9 @@ fn replies() -> Vec<Aim> {
         shape("reply: mode IR", "IR,1:", ",IR"),
         shape("reply: mode SENSOR", "IR,1:", ",SENSOR"),
         shape("reply: mode IR_BLASTER", "IR,1:3", ",IR_BLASTER"),
+        shape("reply: mode LED_LIGHTING", "IR,1:", ",LED_LIGHTING"),
+        shape("reply: lamp at 0 with target 0", "LED_LIGHTING,1:", ",0,0"),
+        shape("reply: lamp at 100 with target 100", "LED_LIGHTING,1:", ",100,100"),
         shape("reply: relay 0", "state,2:", ",0"),
         shape("reply: relay 1", "state,2:", ",1"),
         shape("reply: contact 0", "state,1:", ",0"),
@@ -229,6 +338,80 @@ fn refusals() -> Vec<Aim> {
         aim("!104 for the value", |step| step.refused(104) && step.numbers()[1] > 1),
         aim("!104 for the mode", |step| step.refused(104) && (1..=3).contains(&step.numbers()[0]) && step.numbers()[1] <= 1),
         aim("! for another form", |step| matches!(step.said[..], [Said::AnotherForm])),
+    ]
+}
+
+/// Levels that were asked for, of lamps that rise and of lamps that fall.
+fn courses() -> Vec<Aim> {
+    let asked: [(&str, fn(&Course) -> bool); 10] = [
+        ("under way", |course| course.before != course.now && course.now != course.after),
+        ("at a whole percent", |course| is_whole(course.now) && course.now != course.after),
+        ("1 us before a whole percent", |course| is_whole(course.after) && course.now != course.after && course.after != course.goal),
+        ("1 us after a whole percent", |course| is_whole(course.before) && course.before != course.now),
+        ("just after it passed a percent", |course| passed_a_percent(course.before, course.now)),
+        ("just before it passed a percent", |course| passed_a_percent(course.now, course.after)),
+        ("just when it reached its target", |course| course.before != course.now && course.now == course.goal),
+        ("1 us before it reached its target", |course| course.now != course.after && course.after == course.goal),
+        ("before any time passed", |course| course.before == course.now && course.now != course.after),
+        ("at its target", |course| course.before == course.goal),
+    ];
+    let aim_of = |(name, met): (&str, fn(&Course) -> bool), rises: bool| {
+        let direction = if rises { "rising" } else { "falling" };
+        let met_so = move |course: Course| course.rises == rises && met(&course);
+        aim(format!("{direction} lamp asked {name}"), move |step| step.course().is_some_and(met_so))
+    };
+    asked.into_iter().flat_map(|one| [aim_of(one, true), aim_of(one, false)]).collect()
+}
+
+/// What happens to lamps besides.
+fn lamps() -> Vec<Aim> {
+    let [set, get] = ["set_LED_LIGHTING", "get_LED_LIGHTING"];
+    vec![
+        aim("rising lamp turned at no whole percent", |step| step.set_under_way(true, false)),
+        aim("falling lamp turned at no whole percent", |step| step.set_under_way(false, true)),
+        aim("rising lamp set to rise on from no whole percent", |step| step.set_under_way(true, true)),
+        aim("falling lamp set to fall on from no whole percent", |step| step.set_under_way(false, false)),
+        aim("lamp under way set with ramp 0", |step| step.set_at_once_under_way()),
+        aim("lamp under way given its mode again", |step| step.to_a_lamp_under_way("set_IR") && step.says("IR,", ",LED_LIGHTING")),
+        aim("lamp under way given another mode", |step| step.to_a_lamp_under_way("set_IR") && step.lamp().is_none()),
+        aim("lamp lit before another mode, now dark", |step| step.forgot_its_level()),
+        aim("all three connectors lit", |step| step.hub.levels().iter().all(|level| *level > 0)),
+        aim("closing with a lamp under way", |step| step.line.starts_with(b"x ") && step.said.is_empty() && step.some_lamp_is_under_way()),
+        aim("!103 with a lamp under way", |step| step.refused(103) && step.some_lamp_is_under_way()),
+        aim("!104 to a lamp", |step| step.refused(104) && step.numbers()[1] <= 1 && step.lamp_before().is_some()),
+        aim("013 to a sendir to a lamp", |step| step.error(13) && step.to_a_lamp("sendir")),
+        aim("013 to a stopir to a lamp", |step| step.error(13) && step.to_a_lamp("stopir")),
+        aim("017 to a stopir to a lamp", |step| step.error(17) && step.to_a_lamp("stopir")),
+        aim("018 to a getstate of a lamp", |step| step.error(18) && step.to_a_lamp("getstate")),
+        aim("029 to LED_LIGHTING", |step| step.error(29) && step.field(2) == b"LED_LIGHTING"),
+        aim("017 to a set_LED_LIGHTING of a lamp", move |step| step.error(17) && step.to_a_lamp(set)),
+        aim("017 to a get_LED_LIGHTING of a lamp", move |step| step.error(17) && step.to_a_lamp(get)),
+        aim("surplus gets 023 to a set_LED_LIGHTING of no lamp", move |step| step.surplus_refused_for_the_mode(set, 4)),
+        aim("surplus gets 023 to a get_LED_LIGHTING of no lamp", move |step| step.surplus_refused_for_the_mode(get, 2)),
+    ]
+}
+
+/// A lamp's target or ramp at its limit is taken, and over it or missing it gets 023.
+fn lamp_limits() -> Vec<Aim> {
+    let set_with = |name: &str, index: usize, value: Option<u64>, taken: bool| {
+        let value_text = value.map_or("missing".to_string(), |value| value.to_string());
+        let outcome = if taken { "taken" } else { "gets 023" };
+        aim(format!("lamp's {name} {value_text} {outcome}"), move |step| {
+            let answered = if taken { step.says("LED_LIGHTING", "") } else { step.error(23) };
+            let given = step.field(index);
+            step.to_a_lamp("set_LED_LIGHTING") && answered && value.map_or(given.is_empty(), |value| number(given) == Some(value))
+        })
+    };
+    vec![
+        set_with("target", 2, Some(0), false),
+        set_with("target", 2, Some(1), true),
+        set_with("target", 2, Some(100), true),
+        set_with("target", 2, Some(101), false),
+        set_with("target", 2, None, false),
+        set_with("ramp", 3, Some(0), true),
+        set_with("ramp", 3, Some(10), true),
+        set_with("ramp", 3, Some(11), false),
+        set_with("ramp", 3, None, false),
     ]
 }
 
@@ -327,6 +510,7 @@ impl Tally {
         self.lines += 1;
         let ages = |hub: &Hub| [0, 1, 2].map(|index| age(&hub.connectors[index].sendings));
         let before = ages(hub);
+        let lamps_before = [0, 1, 2].map(|index| hub.connectors[index].lamp());
         let said = step(hub, line);
         let after = ages(hub);
         let moved = |by: fn((usize, usize), (usize, usize)) -> bool| {
@@ -338,7 +522,7 @@ impl Tally {
         let [line, request] = [line, ended_request].map(|text| text.strip_suffix(b"\n").unwrap_or(text));
         let started = moved(|before, after| after.0 > before.0);
         let renewed = moved(|before, after| after.0 == before.0 && after.1 > before.1);
-        let step = Step { line, request, said, hub, started, renewed };
+        let step = Step { line, request, said, hub, started, renewed, lamps_before };
         for (count, aim) in self.counts.iter_mut().zip(aims) {
             *count += u64::from((aim.met)(&step));
         }

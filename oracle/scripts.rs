@@ -1,5 +1,5 @@
 //! scripts SEED LINES: prints one script for the bench, the same for the same seed. To meet exact moments the generator runs the oracle
-//! beside what it writes and asks it where its transmissions are; it need not be independent of it.
+//! beside what it writes and asks it where its transmissions and lamps are; it need not be independent of it.
 
 #[path = "hub.rs"]
 #[allow(dead_code)] // only some of the hub's questions are asked here
@@ -9,7 +9,7 @@ mod random;
 #[path = "words.rs"]
 mod words;
 
-use hub::{Command, Hub, Mode, Moment, Periods, Sending, MOST_PAIRS};
+use hub::{Command, Hub, Lamp, Level, Moment, Periods, Sending, MOST_PAIRS};
 use random::Random;
 use std::cmp::Reverse;
 use std::io::{self, Write};
@@ -69,7 +69,7 @@ impl Script {
     }
 
     fn idle_port(&mut self) -> Option<u64> {
-        self.chosen_port(|connector| connector.sending().is_none() && connector.mode() != Mode::Sensor)
+        self.chosen_port(|connector| connector.sending().is_none() && connector.mode().can_transmit())
     }
 
     fn sending(&self, port: u64) -> Option<&Sending> {
@@ -133,7 +133,7 @@ impl Script {
     fn start(&mut self) {
         let command = self.random.command();
         let port = self.idle_port().unwrap_or(self.random.port());
-        if self.hub.connector(port).mode() == Mode::Sensor {
+        if !self.hub.connector(port).mode().can_transmit() {
             self.request(0, format!("set_IR,1:{port},IR"));
         }
         let connection = self.connection();
@@ -227,7 +227,7 @@ impl Script {
         if self.sending(port).is_some() {
             self.request(0, format!("stopir,1:{port}"));
         }
-        if self.hub.connector(port).mode() == Mode::Sensor {
+        if !self.hub.connector(port).mode().can_transmit() {
             self.request(0, format!("set_IR,1:{port},IR"));
         }
     }
@@ -271,8 +271,10 @@ impl Script {
             let connection = self.connection();
             match self.random.below(12) {
                 0..=3 => self.request(connection, format!("set_IR,1:{port},SENSOR")),
-                4 => self.request(connection, format!("set_IR,1:{port},IR")),
-                5 => self.request(connection, format!("set_IR,1:{port},IR_BLASTER")),
+                4..=5 => {
+                    let mode = self.random.pick(&["IR", "IR_BLASTER", "LED_LIGHTING"]);
+                    self.request(connection, format!("set_IR,1:{port},{mode}"));
+                }
                 6 => self.request(connection, format!("get_IR,1:{port}")),
                 7..=8 => {
                     let value = self.random.below(2);
@@ -283,6 +285,74 @@ impl Script {
         }
         if self.random.one_in(2) {
             self.request(0, format!("set_IR,1:{port},IR"));
+        }
+    }
+
+    /// A lamp over some of its life. It is often left as it is, so that the time of other moves passes over it.
+    fn lamp(&mut self) {
+        let idle = self.chosen_port(|connector| connector.sending().is_none());
+        let lamp = self.chosen_port(|connector| connector.lamp().is_some());
+        let port = lamp.filter(|_| self.random.one_in(2)).or(idle).unwrap_or(1);
+        self.request(0, format!("set_IR,1:{port},LED_LIGHTING"));
+        self.dim(port);
+        for _ in 0..self.random.between(2, 8) {
+            match self.random.below(10) {
+                0..=3 => self.dim(port),
+                4..=7 => self.watch_lamp(port),
+                8 => self.disturb_lamp(port),
+                _ => self.some_wait(),
+            }
+        }
+        if self.random.one_in(3) {
+            self.request(0, format!("set_IR,1:{port},IR"));
+        }
+    }
+
+    fn dim(&mut self, port: u64) {
+        let (connection, fields, surplus) = (self.connection(), self.random.lamp_fields(), self.random.surplus());
+        self.request(connection, format!("set_LED_LIGHTING,1:{port},{fields}{surplus}"));
+    }
+
+    /// Asks where a lamp reaches or passes a percent, the next one, its target or another, or a microsecond before or after.
+    fn watch_lamp(&mut self, port: u64) {
+        let ahead = self.hub.connector(port).lamp().map_or(Vec::new(), |lamp| percents_ahead(&lamp, self.hub.now));
+        if let (Some(next), Some(last)) = (ahead.iter().min(), ahead.iter().max()) {
+            let another = self.random.pick(&ahead);
+            let chosen = self.random.pick(&[*next, *last, another]);
+            let near = self.near(chosen);
+            self.wait_until(near);
+        }
+        let (connection, surplus) = (self.connection(), self.random.surplus());
+        self.request(connection, format!("get_LED_LIGHTING,1:{port}{surplus}"));
+        if self.random.one_in(3) {
+            self.line("w 1");
+            self.request(connection, format!("get_LED_LIGHTING,1:{port}"));
+        }
+    }
+
+    /// What a lamp refuses or is not touched by, and changes of mode.
+    fn disturb_lamp(&mut self, port: u64) {
+        let (connection, surplus) = (self.connection(), self.random.surplus());
+        match self.random.below(10) {
+            0 => {
+                let fields = self.random.pick(&["", ",x", ",7,40000,1,1,4", ",7,40000,1,1,24,960"]);
+                self.request(connection, format!("sendir,1:{port}{fields}"));
+            }
+            1 => self.request(connection, format!("stopir,1:{port}{surplus}")),
+            2 => self.request(connection, format!("getstate,1:{port}{surplus}")),
+            3 => {
+                let value = self.random.below(2);
+                self.line(format!("r {port} {value}"));
+            }
+            4 => self.line(format!("x {connection}")),
+            5 => self.line(format!("w {}", LONGEST_WAIT + 1)),
+            6 => self.line(format!("w {LONGEST_WAIT}")),
+            _ => {
+                let mode = self.random.mode_word();
+                self.request(connection, format!("set_IR,1:{port},{mode}{surplus}"));
+                self.request(connection, format!("set_IR,1:{port},LED_LIGHTING"));
+                self.watch_lamp(port);
+            }
         }
     }
 
@@ -406,7 +476,7 @@ impl Script {
 
     /// One move, by weight: lines of thousands of bytes stay few.
     fn play(&mut self) {
-        const MOVES: [(u64, fn(&mut Script)); 22] = [
+        const MOVES: [(u64, fn(&mut Script)); 23] = [
             (30, Script::start),
             (36, Script::renew),
             (18, Script::replace),
@@ -418,8 +488,9 @@ impl Script {
             (15, Script::some_wait),
             (9, |script| script.line("w 0")),
             (15, Script::contact),
+            (18, Script::lamp),
             (9, Script::relay),
-            (60, Script::any_request),
+            (72, Script::any_request),
             (15, Script::fault_while_busy),
             (12, Script::odd_byte),
             (3, Script::noise),
@@ -446,7 +517,7 @@ impl Script {
                 self.wait_until(moment);
             }
         }
-        for question in ["get_IR,1", "getstate,2", "getstate,1"] {
+        for question in ["get_IR,1", "getstate,2", "getstate,1", "get_LED_LIGHTING,1"] {
             (1..=3).for_each(|port| self.request(0, format!("{question}:{port}")));
         }
         while self.left > 1 {
@@ -456,10 +527,18 @@ impl Script {
     }
 }
 
+/// The moments when a lamp will reach, or pass between two microseconds, the whole percents on the rest of its way.
+pub fn percents_ahead(lamp: &Lamp, now: Moment) -> Vec<Moment> {
+    let (level, goal) = (lamp.level_at(now), lamp.goal());
+    let on_the_way = |place: &Level| (level < *place && *place <= goal) || (goal <= *place && *place < level);
+    let first_moment_at = |place: Level| lamp.told.0 + lamp.from.0.abs_diff(place.0).div_ceil(u128::from(lamp.ramp));
+    (0..=100).map(Level::of_percent).filter(on_the_way).map(|place| Moment(first_moment_at(place))).collect()
+}
+
 /// The script of a seed. Every fourth ends without LF, so that its last line is of another form.
 pub fn script(seed: u64, lines: usize) -> Vec<u8> {
     let mut script = Script { hub: Hub::fresh(), random: Random(seed), text: Vec::new(), left: lines };
-    while script.left > 18 {
+    while script.left > 21 {
         script.play();
     }
     script.settle();

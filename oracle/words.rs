@@ -3,17 +3,20 @@
 use super::hub::{Command, Pair, MOST_PAIRS};
 use super::random::Random;
 
-const NAMES: [&str; 8] = ["getdevices", "getversion", "set_IR", "get_IR", "setstate", "getstate", "sendir", "stopir"];
-const OTHER_NAMES: [&str; 14] = [
+const NAMES: [&str; 10] = [
+    "getdevices", "getversion", "set_IR", "get_IR", "setstate", "getstate", "sendir", "stopir", "set_LED_LIGHTING", "get_LED_LIGHTING",
+];
+const OTHER_NAMES: [&str; 18] = [
     "", "getdevice", "getdevicess", "GETDEVICES", "getdevices ", " getversion", "get_ir", "set_IRL", "get_IRL", "sendIR", "sendi",
-    "stopir:1", "unknowncommand", "setstate2",
+    "stopir:1", "unknowncommand", "setstate2", "set_LED", "get_LED_LIGHTINGS", "set_led_lighting", "LED_LIGHTING",
 ];
 const OTHER_ADDRESSES: [&str; 16] =
     ["", "1", "1:", ":1", ":", "1:1x", "x1:1", "1:1:1", "1;1", "1: 1", " 1:1", "1:1 ", "-1:1", "1:+1", "a:b", "2:"];
 const OTHER_MODULES: [&str; 6] = ["0", "3", "5", "0000001", "0000002", "9999999999"];
 const OTHER_PORTS: [&str; 7] = ["0", "4", "000004", "0000001", "1000000", "99999999999999999999999", "18446744073709551617"];
-const MODES: [&str; 3] = ["IR", "SENSOR", "IR_BLASTER"];
-const OTHER_MODES: [&str; 10] = ["", "ir", "IRx", "IR ", "I", "SENSOR_NOTIFY", "LED_LIGHTING", "IR_BLASTERS", "Sensor", "0"];
+const MODES: [&str; 4] = ["IR", "SENSOR", "IR_BLASTER", "LED_LIGHTING"];
+const OTHER_MODES: [&str; 12] =
+    ["", "ir", "IRx", "IR ", "I", "SENSOR_NOTIFY", "LED", "LED_LIGHTINGS", "led_lighting", "IR_BLASTERS", "Sensor", "0"];
 const STATES: [&str; 5] = ["0", "1", "00", "01", "000001"];
 const OTHER_STATES: [&str; 8] = ["", "2", "1x", " 1", "0000001", "10", "-1", "x"];
 const NOT_NUMBERS: [&str; 9] = ["", "x", "-1", "+1", " 1", "1 ", "1.5", "1x", "1A"];
@@ -241,7 +244,16 @@ impl Random {
         self.word(&STATES, &OTHER_STATES)
     }
 
-    /// A field of a sendir: mostly good, or at a limit, or over it, or no number.
+    /// Mostly nothing behind a request.
+    pub fn surplus(&mut self) -> &'static str {
+        if self.one_in(6) {
+            self.pick(&SURPLUS)
+        } else {
+            ""
+        }
+    }
+
+    /// A number of a request: mostly good, or at a limit, or over it, or no number.
     pub fn field(&mut self, good: u64, limits: &[&'static str]) -> String {
         match self.below(30) {
             0 => self.pick(&NOT_NUMBERS).to_string(),
@@ -249,6 +261,14 @@ impl Random {
             2..=4 => self.pick(limits).to_string(),
             _ => good.to_string(),
         }
+    }
+
+    /// A lamp's target and ramp.
+    pub fn lamp_fields(&mut self) -> String {
+        let (good_target, good_ramp) = (self.between(1, 100), self.between(0, 10));
+        let target = self.field(good_target, &["0", "000", "1", "100", "000100", "101"]);
+        let ramp = self.field(good_ramp, &["0", "000000", "1", "10", "000010", "11"]);
+        format!("{target},{ramp}")
     }
 
     /// A code that was good, with some bytes changed.
@@ -320,7 +340,7 @@ impl Random {
         let any_id = self.below(65_536);
         let id = self.field(any_id, &["0", "00", "65535", "065535", "65536"]);
         let freq_text = self.field(freq, &["15000", "015000", "14999", "500000", "500001"]);
-        let repeat = self.field(1, &["0", "000000", "20", "21", "999999", "000001"]);
+        let repeat = self.field(1, &["0", "000000", "20", "21", "999999", "000001", "1000000"]);
         let offset = self.field(1, &["0", "2", "3", "5", "382", "383", "384", "385", "000001"]);
         let judged = freq_text.parse().ok().filter(|given| (15_000..=500_000).contains(given)).unwrap_or(freq);
         let code = self.any_code(judged);
@@ -338,13 +358,13 @@ impl Random {
             "sendir" => return self.any_sendir(),
             "set_IR" => format!("{name},{},{}", self.address_text(1), self.mode_word()),
             "setstate" => format!("{name},{},{}", self.address_text(2), self.state_word()),
+            "set_LED_LIGHTING" => format!("{name},{},{}", self.address_text(1), self.lamp_fields()),
             _ => {
                 let module = if name == "getstate" { self.between(1, 2) } else { 1 };
                 format!("{name},{}", self.address_text(module))
             }
         };
         let cut = request.rfind(',').filter(|_| self.one_in(16)).unwrap_or(request.len());
-        let surplus = if self.one_in(6) { self.pick(&SURPLUS) } else { "" };
-        format!("{}{surplus}", &request[..cut])
+        format!("{}{}", &request[..cut], self.surplus())
     }
 }

@@ -63,7 +63,7 @@ impl Answers {
             Answer::Refusal { of, number } => complain(&format!("a reading of 1:{of} was refused with {number}")),
             // where nobody takes it, the server has ended
             Answer::Due(after) => drop(self.due.send(*after)),
-            Answer::Carriers => (),
+            Answer::Carriers | Answer::Levels => (),
         }
     }
 }

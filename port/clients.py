@@ -139,6 +139,16 @@ class Client:
         self.send(request.encode() + b"\r")
         self.expect(reply.encode() + b"\r")
 
+    def answer(self, request):
+        """The line that comes for a request."""
+        self.send(request.encode() + b"\r")
+        with self.news:
+            self.news.wait_for(lambda: self.ended or b"\r" in self.got[self.seen:], PATIENCE)
+            line, end, _ = bytes(self.got[self.seen:]).partition(b"\r")
+        expect(end, f"{self.name!r}: no answer to {request}")
+        self.seen += len(line + end)
+        return line.decode()
+
     def unasked(self):
         """What came and was not asked for."""
         return bytes(self.got[self.seen:])
@@ -170,13 +180,15 @@ CODES = ["24,24", "24,48,24,960", "34,48,24,960", "4,4AAA", "24,24B", "4,5,8", "
 def request(chance):
     """A request at random, most of them good."""
     port, state = chance.randint(1, 3), chance.randint(0, 1)
-    mode = chance.choice(["IR", "SENSOR", "SENSOR", "IR_BLASTER", "ir"])
+    mode = chance.choice(["IR", "SENSOR", "SENSOR", "IR_BLASTER", "LED_LIGHTING", "ir"])
     code, number, times = chance.choice(CODES), chance.randint(0, 99), chance.randint(1, 3)
+    target, ramp = chance.randint(1, 101), chance.randint(0, 10)
     return chance.choice([
         f"getstate,2:{port}", f"getstate,2:{port}", f"setstate,2:{port},{state}", f"get_IR,1:{port}", "getversion",
         "getdevices", f"set_IR,1:2,{mode}", "set_IR,1:2,SENSOR", "getstate,1:2", f"stopir,1:{port}", "getstate,9:1", "",
         f"sendir,1:{port},{number},40000,{times},1,{code}", f"sendir,1:{port},{number},40000,{times},1,{code}",
-        f"sendir,1:1,{number % 2},500000,1,1,40,40", "noise \x07",
+        f"sendir,1:1,{number % 2},500000,1,1,40,40", "noise \x07", "set_IR,1:2,LED_LIGHTING",
+        f"set_LED_LIGHTING,1:2,{target},{ramp}", "get_LED_LIGHTING,1:2",
     ])
 
 

@@ -21,17 +21,19 @@ fn mode_word(mode: u8) -> &'static str {
     match mode {
         0 => "IR",
         1 => "SENSOR",
-        _ => "IR_BLASTER",
+        2 => "IR_BLASTER",
+        _ => "LED_LIGHTING",
     }
 }
 
 impl Memory {
-    fn connector(&mut self, by: u8, port: u8, mode: u8, id: Option<u16>) -> Option<String> {
+    fn connector(&mut self, by: u8, port: u8, mode: u8, id: Option<u16>, target: u8) -> Option<String> {
         let known = self.connectors.get_mut(usize::from(port).checked_sub(1)?)?;
         let (mode_before, id_before) = std::mem::replace(known, (mode, id));
         match (id_before, id) {
             _ if mode != mode_before => Some(format!("mode 1:{port} {} by {by}", mode_word(mode))),
-            (None, None) => None,
+            // a lamp was turned, or had its mode set again: these are told alike
+            (None, None) => (target > 0).then(|| format!("lamp 1:{port} to {target} by {by}")),
             (None, Some(id)) => Some(format!("1:{port} transmits {id} for {by}")),
             (Some(_), None) => Some(format!("1:{port} halted by {by}")),
             (Some(before), Some(id)) if before == id => Some(format!("1:{port} renewed")),
@@ -55,10 +57,11 @@ impl Memory {
 
     fn told(&mut self, answer: &Answer) -> Option<String> {
         match *answer {
-            Answer::Connector { by, port, mode, id } => self.connector(by, port, mode, id),
+            Answer::Connector { by, port, mode, id, target } => self.connector(by, port, mode, id, target),
             Answer::Relay { by, port, state } => self.relay(by, port, state),
             Answer::Completion { text, .. } => self.completion(text),
-            Answer::Reply { .. } | Answer::Carriers | Answer::Due(_) | Answer::Refusal { .. } => None,
+            Answer::Reply { .. } | Answer::Refusal { .. } => None,
+            Answer::Carriers | Answer::Levels | Answer::Due(_) => None,
         }
     }
 }
@@ -126,9 +129,9 @@ mod tests {
         assert_eq!(memory.relay(4, 2, 0), None);
         assert_eq!(memory.relay(4, 2, 1).as_deref(), Some("relay 2:2 closed by 4"));
         assert_eq!(memory.relay(5, 2, 1), None);
-        assert_eq!(memory.connector(0, 1, 0, None), None);
-        assert_eq!(memory.connector(0, 3, 1, None).as_deref(), Some("mode 1:3 SENSOR by 0"));
-        assert_eq!(memory.connector(0, 3, 1, None), None);
+        assert_eq!(memory.connector(0, 1, 0, None, 0), None);
+        assert_eq!(memory.connector(0, 3, 1, None, 0).as_deref(), Some("mode 1:3 SENSOR by 0"));
+        assert_eq!(memory.connector(0, 3, 1, None, 0), None);
         assert_eq!(memory.relay(0, 0, 1), None);
         assert_eq!(memory.relay(0, 4, 1), None);
     }
@@ -136,12 +139,23 @@ mod tests {
     #[test]
     fn a_transmission_is_shown_from_its_start_to_its_end() {
         let mut memory = Memory::default();
-        assert_eq!(memory.connector(1, 1, 0, Some(7)).as_deref(), Some("1:1 transmits 7 for 1"));
-        assert_eq!(memory.connector(1, 1, 0, Some(7)).as_deref(), Some("1:1 renewed"));
-        assert_eq!(memory.connector(1, 1, 0, Some(8)).as_deref(), Some("1:1 transmits 8 for 1 in the place of 7"));
+        assert_eq!(memory.connector(1, 1, 0, Some(7), 0).as_deref(), Some("1:1 transmits 7 for 1"));
+        assert_eq!(memory.connector(1, 1, 0, Some(7), 0).as_deref(), Some("1:1 renewed"));
+        assert_eq!(memory.connector(1, 1, 0, Some(8), 0).as_deref(), Some("1:1 transmits 8 for 1 in the place of 7"));
         assert_eq!(memory.completion(b"completeir,1:1,8\r").as_deref(), Some("1:1 complete"));
-        assert_eq!(memory.connector(2, 1, 0, None), None);
-        assert_eq!(memory.connector(1, 1, 0, Some(8)).as_deref(), Some("1:1 transmits 8 for 1"));
-        assert_eq!(memory.connector(2, 1, 0, None).as_deref(), Some("1:1 halted by 2"));
+        assert_eq!(memory.connector(2, 1, 0, None, 0), None);
+        assert_eq!(memory.connector(1, 1, 0, Some(8), 0).as_deref(), Some("1:1 transmits 8 for 1"));
+        assert_eq!(memory.connector(2, 1, 0, None, 0).as_deref(), Some("1:1 halted by 2"));
+    }
+
+    #[test]
+    fn a_lamp_is_shown_when_it_is_turned() {
+        let mut memory = Memory::default();
+        assert_eq!(memory.connector(3, 2, 3, None, 0).as_deref(), Some("mode 1:2 LED_LIGHTING by 3"));
+        assert_eq!(memory.connector(3, 2, 3, None, 0), None);
+        assert_eq!(memory.connector(3, 2, 3, None, 50).as_deref(), Some("lamp 1:2 to 50 by 3"));
+        assert_eq!(memory.connector(4, 2, 3, None, 50).as_deref(), Some("lamp 1:2 to 50 by 4"));
+        assert_eq!(memory.connector(4, 2, 0, None, 0).as_deref(), Some("mode 1:2 IR by 4"));
+        assert_eq!(memory.connector(4, 4, 3, None, 50), None);
     }
 }

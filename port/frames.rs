@@ -53,12 +53,13 @@ impl Frame {
                 let after = u64::from(u32::from_be_bytes([*a, *b, *c, *d]));
                 Some(Answer::Completion { to: Some(connection).filter(|to| *to != NOBODY), after, text })
             }
-            (b's', [1, port, mode, transmits, high, low]) => {
+            (b's', [1, port, mode, transmits, high, low, target]) => {
                 let id = Some(u16::from_be_bytes([*high, *low])).filter(|_| *transmits == 1);
-                Some(Answer::Connector { by: connection, port: *port, mode: *mode, id })
+                Some(Answer::Connector { by: connection, port: *port, mode: *mode, id, target: *target })
             }
             (b's', [2, port, state]) => Some(Answer::Relay { by: connection, port: *port, state: *state }),
             (b'c', _) => Some(Answer::Carriers),
+            (b'l', _) => Some(Answer::Levels),
             (b'd', []) => Some(Answer::Due(None)),
             (b'd', [a, b, c, d]) => Some(Answer::Due(Some(u64::from(u32::from_be_bytes([*a, *b, *c, *d]))))),
             (b'!', [high, low]) => Some(Answer::Refusal { of: connection, number: u16::from_be_bytes([*high, *low]) }),
@@ -67,13 +68,14 @@ impl Frame {
     }
 }
 
-/// What the program says. Moments are in microseconds.
+/// What the program says. Moments are in microseconds; a connector's target is its lamp's, 0 where there is none.
 pub enum Answer<'a> {
     Reply { to: u8, text: &'a [u8] },
     Completion { to: Option<u8>, after: u64, text: &'a [u8] },
-    Connector { by: u8, port: u8, mode: u8, id: Option<u16> },
+    Connector { by: u8, port: u8, mode: u8, id: Option<u16>, target: u8 },
     Relay { by: u8, port: u8, state: u8 },
     Carriers,
+    Levels,
     Due(Option<u64>),
     Refusal { of: u8, number: u16 },
 }
@@ -101,10 +103,13 @@ mod tests {
         let expected = b"completeir,1:1,7\r";
         assert!(matches!(completion.answer(),
             Some(Answer::Completion { to: None, after: 51_250, text }) if text == expected));
-        let halted = read(b"s\x02\x00\x06\x01\x03\x02\x00\x00\x00");
-        assert!(matches!(halted.answer(), Some(Answer::Connector { by: 2, port: 3, mode: 2, id: None })));
-        let sent = read(b"s\x02\x00\x06\x01\x03\x00\x01\x01\x02");
+        let halted = read(b"s\x02\x00\x07\x01\x03\x02\x00\x00\x00\x00");
+        assert!(matches!(halted.answer(), Some(Answer::Connector { by: 2, port: 3, mode: 2, id: None, target: 0 })));
+        let sent = read(b"s\x02\x00\x07\x01\x03\x00\x01\x01\x02\x00");
         assert!(matches!(sent.answer(), Some(Answer::Connector { id: Some(258), .. })));
+        let turned = read(b"s\x03\x00\x07\x01\x02\x03\x00\x00\x00\x32");
+        assert!(matches!(turned.answer(), Some(Answer::Connector { by: 3, port: 2, mode: 3, id: None, target: 50 })));
+        assert!(matches!(read(b"l\x00\x00\x03\x00\x64\x00").answer(), Some(Answer::Levels)));
         assert!(matches!(read(b"d\x00\x00\x00").answer(), Some(Answer::Due(None))));
         assert!(matches!(read(b"!\x02\x00\x02\x00\x68").answer(), Some(Answer::Refusal { of: 2, number: 104 })));
         assert!(read(b"s\x00\x00\x01\x01").answer().is_none());

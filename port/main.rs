@@ -3,7 +3,7 @@
 //!
 //! port [ADDRESS:PORT] [--record FILE] --program WORDS..: listens at 127.0.0.1:4998 unless said otherwise; port 0 is
 //! any free one. WORDS is the command of the program. With --record all frames that it is given go into FILE, all that
-//! come back into FILE.out, and the carriers are asked for after each event.
+//! come back into FILE.out, and the carriers and the lamps' levels are asked for after each event.
 
 mod answers;
 mod clients;

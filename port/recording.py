@@ -65,7 +65,7 @@ class Recording:
     def _note_lateness(self, event, answer):
         """By how many microseconds the waits went beyond the completions in them."""
         waited = sum(int.from_bytes(data, "big") for kind, _, data in event if kind == "w")
-        alone = all(kind in "wcd" for kind, _, _ in event)
+        alone = all(kind in "wcld" for kind, _, _ in event)
         self.lateness += [waited - int.from_bytes(data[:4], "big") for kind, _, data in answer if kind == "f" and alone]
 
     def of(self, client):

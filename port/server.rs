@@ -184,6 +184,7 @@ impl Server {
     fn ask(&mut self, batch: &mut Batch) {
         if self.record.is_some() {
             put(&mut batch.frames, b'c', 0, b"");
+            put(&mut batch.frames, b'l', 0, b"");
         }
         put(&mut batch.frames, b'd', 0, b"");
         batch.asked += 1;

@@ -47,13 +47,8 @@ class Sessions:
         one.ask("getstate,1:2", "ERR_1:2,028")
         self.server.type("r 2 0")
         # a reading comes another way than the lines: it is there before long
-        state = b""
-        while state != b"state,1:2,0\r":
-            expect(state in (b"", b"ERR_1:2,028\r"), f"{state!r} for a contact that reads 0")
-            at = len(one.got)
-            one.send(b"getstate,1:2\r")
-            eventually(lambda: bytes(one.got[at:]).endswith(b"\r"), "no answer to a getstate")
-            state = bytes(one.got[at:])
+        while (state := one.answer("getstate,1:2")) != "state,1:2,0":
+            expect(state == "ERR_1:2,028", f"{state!r} for a contact that reads 0")
         start = time.monotonic()
         two.send(b"sendir,1:1,7,40000,2,3,34,48,24,960\r")
         two.expect(b"completeir,1:1,7\r")
@@ -104,6 +99,30 @@ class Sessions:
             expect(right <= seconds < right + 5, f"{right} s took {seconds} s")
         self.finish(*clients.values())
         expect(not any(client.unasked() for client in clients.values()), "a completion came to somebody else too")
+
+    def lighting(self):
+        """A lamp moves with the time that passes, whoever leaves meanwhile, and with ramp 0 at once."""
+        first, other = self.client(), self.client()
+        first.ask("set_IR,1:1,LED_LIGHTING", "IR,1:1,LED_LIGHTING")
+        first.ask("get_LED_LIGHTING,1:1", "LED_LIGHTING,1:1,0,0")
+        begun = time.monotonic()
+        first.ask("set_LED_LIGHTING,1:1,100,1", "LED_LIGHTING,1:1,0,100")
+        turned = time.monotonic()
+        first.finish()
+        time.sleep(0.5)
+        asked = time.monotonic()
+        shown = other.answer("get_LED_LIGHTING,1:1")
+        # the hub counts whole microseconds
+        least, most = level_after(asked - turned - 1e-6), level_after(time.monotonic() - begun + 1e-6)
+        right = [f"LED_LIGHTING,1:1,{level},100" for level in range(least, most + 1)]
+        expect(shown in right, f"{shown!r} and no level of {least} to {most}")
+        other.ask("set_LED_LIGHTING,1:1,100,0", "LED_LIGHTING,1:1,100,100")
+        other.ask("set_LED_LIGHTING,1:1,1,10", "LED_LIGHTING,1:1,100,1")
+        eventually(lambda: other.answer("get_LED_LIGHTING,1:1") == "LED_LIGHTING,1:1,1,1", "a lamp does not arrive")
+        other.ask("sendir,1:1,5,40000,1,1,24,24", "ERR_1:1,013")
+        other.ask("set_IR,1:1,IR", "IR,1:1,IR")
+        other.ask("get_LED_LIGHTING,1:1", "ERR_1:1,023")
+        self.finish(other)
 
     def inheriting(self):
         """The next client gets the number of one that left, and owns nothing of what it left running."""
@@ -234,6 +253,9 @@ class Sessions:
         client.ask("stopir,1:3", "stopir,1:3")
         client.send(b"sendir,1:3,4,40000,1,1,24,24\r")
         client.expect(b"completeir,1:3,4\r")
+        client.ask("set_IR,1:3,LED_LIGHTING", "IR,1:3,LED_LIGHTING")
+        client.ask("set_LED_LIGHTING,1:3,50,0", "LED_LIGHTING,1:3,50,50")
+        client.ask("get_LED_LIGHTING,1:3", "LED_LIGHTING,1:3,50,50")
         client.ask("set_IR,1:3,IR", "IR,1:3,IR")
         client.finish()
         eventually(lambda: " mode 1:3 IR by " in self.server.shown[-1], "the last change is not shown")
@@ -241,7 +263,7 @@ class Sessions:
         right = [
             f"relay 2:3 closed by {by}", f"relay 2:3 open by {by}", f"mode 1:3 IR_BLASTER by {by}",
             f"1:3 transmits 9 for {by}", "1:3 renewed", f"1:3 halted by {by}", f"1:3 transmits 4 for {by}",
-            "1:3 complete", f"mode 1:3 IR by {by}",
+            "1:3 complete", f"mode 1:3 LED_LIGHTING by {by}", f"lamp 1:3 to 50 by {by}", f"mode 1:3 IR by {by}",
         ]
         seen = self.server.shown[-len(right):]
         expect([line.split(" ", 1)[1] for line in seen] == right, f"the technician sees {seen}")
@@ -266,14 +288,19 @@ class Sessions:
         expect(not Path(f"/proc/{program}").exists(), "the program is still there")
 
     def all(self):
-        for session in (self.readme, self.readings, self.stopping, self.completing, self.inheriting, self.ninth,
-                        self.endless, self.silent, self.killed, self.shell, self.netcat, self.showing, self.taken,
-                        self.interrupted, self.crowd):
+        for session in (self.readme, self.readings, self.stopping, self.completing, self.lighting, self.inheriting,
+                        self.ninth, self.endless, self.silent, self.killed, self.shell, self.netcat, self.showing,
+                        self.taken, self.interrupted, self.crowd):
             try:
                 session()
             except Failed as why:
                 raise Failed(f"{session.__doc__} {why}") from why
             expect(self.server.process.poll() is None, f"{session.__doc__} It ended.")
+
+
+def level_after(seconds):
+    """What a lamp with ramp 1 and target 100 shows so long after it was at 0."""
+    return min(100, int(seconds * 10))
 
 
 def in_threads(works):

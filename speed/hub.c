@@ -1,12 +1,14 @@
 /*
- * A plain hub in C11, written from document 01 and the readings only: what the
- * bench's speed is measured against, and compared with on the same lines.
+ * A plain hub in C11, written from document 01, as document 02 changes it, and
+ * the readings only: what the bench's speed is measured against, and compared
+ * with on the same lines.
  *
  * Standard input: the bench's lines.  Standard output: the bench's output.
  * As `hub port` it speaks the frames of docs/PORT.md instead, and can stand in
  * for the proved program behind the socket.
  * Time is exact: a tick is a millionth of a carrier period, so that one
- * microsecond is freq ticks.  Nothing is rounded but the moment of completion.
+ * microsecond is freq ticks.  Nothing is rounded but the moment of completion,
+ * and a lamp's level where it is shown.
  */
 #include <stddef.h>
 #include <stdint.h>
@@ -34,9 +36,11 @@ enum {
 
 #define TICKS 1000000u               /* ticks in a carrier period */
 #define WAIT_MAX 1000000000u
+#define PERCENT 100000u              /* a lamp with ramp r moves r parts of it in a microsecond */
+#define FULL (100 * PERCENT)
 #define NONE 0xFFFFFFFFu             /* not a number, or out of range */
 
-enum mode { IR, SENSOR, IR_BLASTER };
+enum mode { IR, SENSOR, IR_BLASTER, LED_LIGHTING, MODES };
 enum { UNREAD = -1, NOBODY = -1 };
 
 struct command {
@@ -46,9 +50,17 @@ struct command {
     u32 pair[PAIRS];                 /* on << 16 | off */
 };
 
+/* Only a change of its target is written down: the level follows from what has passed since. */
+struct lamp {
+    u64 since;
+    u32 from;                        /* its exact level then, in parts of a percent */
+    u32 target, ramp;
+};
+
 struct connector {
     enum mode mode;
     int contact;                     /* UNREAD, 0 or 1 */
+    struct lamp lamp;                /* all 0 in the other modes */
     int busy;
     int owner;                       /* connection or NOBODY */
     u64 lead, tail;                  /* periods before and from the offset on */
@@ -59,10 +71,11 @@ struct connector {
 
 static struct connector conn[PORTS + 1];   /* 1 to 3 */
 static int relay[PORTS + 1];
+static u64 now;                      /* microseconds that have passed */
 static struct command scratch;
 
-static const char *const mode_name[3] = { "IR", "SENSOR", "IR_BLASTER" };
-static const u8 mode_len[3] = { 2, 6, 10 };
+static const char *const mode_name[MODES] = { "IR", "SENSOR", "IR_BLASTER", "LED_LIGHTING" };
+static const u8 mode_len[MODES] = { 2, 6, 10, 12 };
 
 /* ---------------------------------------------------------------- output */
 
@@ -157,6 +170,43 @@ static void put_stop(u32 c, u32 p)
     put_asker(c);
     PUT("stopir,1:");
     put_char((char)('0' + p));
+    put_char('\n');
+}
+
+/* ----------------------------------------------------------------- lamps */
+
+/* The exact level: it goes up or down to the target, and stops there. */
+static u32 exact_level(const struct lamp *l)
+{
+    u64 passed = now - l->since;
+    u32 goal = l->target * PERCENT;
+    /* a ramp of 1 goes everywhere while FULL microseconds pass; one of 0 is at its target */
+    u32 most = passed < FULL ? (u32)passed * l->ramp : FULL;
+    if (l->from < goal)
+        return goal - l->from > most ? l->from + most : goal;
+    return l->from - goal > most ? l->from - most : goal;
+}
+
+static inline u32 level(const struct lamp *l) { return exact_level(l) / PERCENT; }
+
+static void turn(struct lamp *l, u32 target, u32 ramp)
+{
+    l->from = ramp ? exact_level(l) : target * PERCENT;
+    l->since = now;
+    l->target = target;
+    l->ramp = ramp;
+}
+
+static void put_lamp(u32 c, u32 p)
+{
+    const struct lamp *l = &conn[p].lamp;
+    put_asker(c);
+    PUT("LED_LIGHTING,1:");
+    put_char((char)('0' + p));
+    put_char(',');
+    put_number(level(l));
+    put_char(',');
+    put_number(l->target);
     put_char('\n');
 }
 
@@ -313,6 +363,11 @@ static __attribute__((noinline)) u32 read_code(const u8 *s, const u8 *e)
 
 /* -------------------------------------------------------------- requests */
 
+static inline int is_sender(const struct connector *k)
+{
+    return k->mode != SENSOR && k->mode != LED_LIGHTING;
+}
+
 static void start(struct connector *k, u32 c)
 {
     u32 before = (scratch.offset - 1) / 2;
@@ -347,13 +402,12 @@ static void renew(struct connector *k)
     k->copies = k->cmd.repeat;
 }
 
-/* s is at the comma after the address, or at the line's end. */
 static void do_sendir(u32 c, u32 p, const u8 *s, const u8 *e)
 {
     struct connector *k = &conn[p];
     u32 fault = 0, v;
 
-    if (k->mode == SENSOR) {
+    if (!is_sender(k)) {
         put_error(c, 1, p, 13);
         return;
     }
@@ -405,10 +459,10 @@ static void do_set_ir(u32 c, u32 p, const u8 *s, const u8 *e)
     s = field_end(s, e);
     size_t len = (size_t)(s - f);
     int m;
-    for (m = 0; m < 3; m++)
+    for (m = 0; m < MODES; m++)
         if (len == mode_len[m] && memcmp(f, mode_name[m], len) == 0)
             break;
-    if (m == 3)
+    if (m == MODES)
         put_error(c, 1, p, 23);
     else if (m == IR_BLASTER && p != 3)
         put_error(c, 1, p, 14);
@@ -420,9 +474,34 @@ static void do_set_ir(u32 c, u32 p, const u8 *s, const u8 *e)
         if (k->mode != (enum mode)m) {
             k->mode = (enum mode)m;
             k->contact = UNREAD;
+            k->lamp = (struct lamp){ 0 };
         }
         put_mode(c, p);
     }
+}
+
+static void do_set_lamp(u32 c, u32 p, const u8 *s, const u8 *e)
+{
+    u32 target = next_number(&s, e);
+    u32 ramp = next_number(&s, e);
+    if (conn[p].mode != LED_LIGHTING || target < 1 || target > 100 || ramp > 10)
+        put_error(c, 1, p, 23);
+    else if (s < e)
+        put_error(c, 0, 0, 17);
+    else {
+        turn(&conn[p].lamp, target, ramp);
+        put_lamp(c, p);
+    }
+}
+
+static void do_get_lamp(u32 c, u32 p, const u8 *s, const u8 *e)
+{
+    if (conn[p].mode != LED_LIGHTING)
+        put_error(c, 1, p, 23);
+    else if (s < e)
+        put_error(c, 0, 0, 17);
+    else
+        put_lamp(c, p);
 }
 
 static void do_setstate(u32 c, u32 p, const u8 *s, const u8 *e)
@@ -441,7 +520,7 @@ static void do_setstate(u32 c, u32 p, const u8 *s, const u8 *e)
 static void do_stopir(u32 c, u32 p)
 {
     struct connector *k = &conn[p];
-    if (k->mode == SENSOR) {
+    if (!is_sender(k)) {
         put_error(c, 1, p, 13);
         return;
     }
@@ -466,7 +545,9 @@ static void do_getstate(u32 c, u32 m, u32 p)
         put_state(c, 1, p, conn[p].contact);
 }
 
-enum name { UNKNOWN, GETDEVICES, GETVERSION, SET_IR, GET_IR, SETSTATE, GETSTATE, SENDIR, STOPIR };
+enum name {
+    UNKNOWN, GETDEVICES, GETVERSION, SET_IR, GET_IR, SETSTATE, GETSTATE, SENDIR, STOPIR, SET_LAMP, GET_LAMP
+};
 
 static enum name read_name(const u8 *s, size_t n)
 {
@@ -486,9 +567,47 @@ static enum name read_name(const u8 *s, size_t n)
         if (IS("getdevices")) return GETDEVICES;
         if (IS("getversion")) return GETVERSION;
         break;
+    case 16:
+        if (IS("set_LED_LIGHTING")) return SET_LAMP;
+        if (IS("get_LED_LIGHTING")) return GET_LAMP;
+        break;
     }
 #undef IS
     return UNKNOWN;
+}
+
+/* What is asked of a connector or relay; s is at the comma after its address, or at the line's end. */
+static void ask(enum name name, u32 c, u32 m, u32 p, const u8 *s, const u8 *e)
+{
+    switch (name) {
+    case SENDIR:
+        do_sendir(c, p, s, e);
+        return;
+    case SET_IR:
+        do_set_ir(c, p, s, e);
+        return;
+    case SETSTATE:
+        do_setstate(c, p, s, e);
+        return;
+    case SET_LAMP:
+        do_set_lamp(c, p, s, e);
+        return;
+    case GET_LAMP:
+        do_get_lamp(c, p, s, e);
+        return;
+    default:
+        break;
+    }
+    if (s < e) {
+        put_error(c, 0, 0, 17);
+        return;
+    }
+    if (name == STOPIR)
+        do_stopir(c, p);
+    else if (name == GETSTATE)
+        do_getstate(c, m, p);
+    else
+        put_mode(c, p);
 }
 
 /* One request line of connection c (0 to 7), without its LF or CR, which stands behind it. */
@@ -551,29 +670,7 @@ static void request(u32 c, const u8 *s, size_t n)
         return;
     }
 
-    switch (name) {
-    case SENDIR:
-        do_sendir(c, p, s, e);
-        return;
-    case SET_IR:
-        do_set_ir(c, p, s, e);
-        return;
-    case SETSTATE:
-        do_setstate(c, p, s, e);
-        return;
-    default:
-        break;
-    }
-    if (s < e) {
-        put_error(c, 0, 0, 17);
-        return;
-    }
-    if (name == STOPIR)
-        do_stopir(c, p);
-    else if (name == GETSTATE)
-        do_getstate(c, m, p);
-    else
-        put_mode(c, p);
+    ask(name, c, m, p, s, e);
 }
 
 /* ----------------------------------------------------------------- calls */
@@ -594,6 +691,7 @@ struct completions {
 /* Lets n microseconds pass: what completes in them, by moment and then by port. */
 static inline void pass(u64 n, struct completions *all)
 {
+    now += n;
     all->n = 0;
     for (u32 p = 1; p <= PORTS; p++) {
         struct connector *k = &conn[p];
@@ -847,13 +945,14 @@ static void frame_connector(u32 c, u32 p)
 {
     const struct connector *k = &conn[p];
     u32 id = k->busy ? k->cmd.id : 0;
-    put_head('s', c, 6);
+    put_head('s', c, 7);
     put_char(1);
     put_char((char)p);
     put_char((char)k->mode);
     put_char((char)k->busy);
     put_char((char)(id >> 8));
     put_char((char)id);
+    put_char((char)k->lamp.target);
 }
 
 static void frame_relay(u32 c, u32 p)
@@ -866,8 +965,9 @@ static void frame_relay(u32 c, u32 p)
 
 /*
  * How the connector or relay is that a line was carried out on. Where it was
- * one, the reply to a set_IR, stopir or setstate names it (the other requests
- * begin with g), and a line without a reply is a sendir that was taken.
+ * one, the reply to a set_IR, set_LED_LIGHTING, stopir or setstate names it
+ * (the other requests begin with g), and a line without a reply is a sendir
+ * that was taken.
  */
 static void frame_state(u32 c, const u8 *line, const char *said, size_t n)
 {
@@ -882,6 +982,8 @@ static void frame_state(u32 c, const u8 *line, const char *said, size_t n)
         return;
     } else if (NAMED("IR,1:")) {
         frame_connector(c, PORT("IR,1:"));
+    } else if (NAMED("LED_LIGHTING,1:")) {
+        frame_connector(c, PORT("LED_LIGHTING,1:"));
     } else if (NAMED("stopir,1:")) {
         frame_connector(c, PORT("stopir,1:"));
     } else if (NAMED("state,2:")) {
@@ -987,6 +1089,13 @@ static void port_carriers(void)
         put_char((char)carrier(&conn[p]));
 }
 
+static void port_levels(void)
+{
+    put_head('l', 0, PORTS);
+    for (u32 p = 1; p <= PORTS; p++)
+        put_char((char)level(&conn[p].lamp));
+}
+
 static void port_close(u32 c)
 {
     if (c >= CONNECTIONS) {
@@ -1029,6 +1138,9 @@ static void port_call(u8 kind, u32 c, const u8 *s)
     case 'c':
         port_carriers();
         break;
+    case 'l':
+        port_levels();
+        break;
     default:
         port_due();
     }
@@ -1049,7 +1161,7 @@ static struct {
 static int fits(u8 kind, size_t n)
 {
     switch (kind) {
-    case 'x': case 'c': case 'd':
+    case 'x': case 'c': case 'l': case 'd':
         return n == 0;
     case 'r':
         return n == 1;

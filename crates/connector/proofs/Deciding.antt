@@ -13,7 +13,7 @@ use Rattle.words.specs.Pairs.{countsOf, pairsOf, countsIn}
 use Rattle.words.proofs.Standing.{pairs-back, counts-first, pairs-many, pairs-counts}
 use Rattle.meaning.specs.Time.{lasts}
 use Rattle.request.specs.declared.Place.{Place}
-use Rattle.request.specs.Mode.{isSensor}
+use Rattle.request.specs.Mode.{isSilent}
 use Rattle.command.specs.declared.read.CommandRead.the-variants.{Fault, Sent}
 use Rattle.command.specs.Read.{commandAt, foundIn, CommandInto, Accepts}
 use Rattle.command.proofs.Commands.{fault-read, sent-read, command-within}
@@ -80,7 +80,7 @@ module _ (text : List ℕ) (at : ℕ) where
         rw (many, k .front, pairs-back found)
 
   -- ---- a sendir to a connector that may transmit
-  module _ (c : Connector) (kept : List ℕ) (connection : ℕ) (place : Place) (ready : isSensor (c .mode) ≡ false) {r : Stepped} {before memory : List ℕ}
+  module _ (c : Connector) (kept : List ℕ) (connection : ℕ) (place : Place) (ready : isSilent (c .mode) ≡ false) {r : Stepped} {before memory : List ℕ}
       {n : ℕ} where
     -- a command with a fault
     pub fault-answered : CommandInto (commandAt text at) before (Fault n) memory → r ≡ fails n place

@@ -1,11 +1,11 @@
 -- Soundness of a connector: a fresh one has it, and whatever becomes of it keeps it.
-use Prim.Native.Nat.{ℕ, _+_, _*_, _/_}
+use Prim.Native.Nat.{ℕ, _+_, _*_, _/_, _≤_}
 use mathlib.Core.Path.{_≡_, refl, sym, ap, _∙_}
-use mathlib.Core.Bool.{not}
+use mathlib.Core.Bool.{Bool, not}
 use mathlib.Core.List.{List}
 use native.Mathlib.Omega.{arith}
 use borrow.Author.Tests.{leb-false, ltb-false}
-use lib.Dec.{leb, ltb}
+use lib.Dec.{leb, ltb, eqb}
 use lib.ListN.{length, take, drop}
 use lib.Seq.{length-sets}
 use Rattle.laws.proofs.Choice.{cond-case}
@@ -18,11 +18,15 @@ use Rattle.pace.specs.declared.Passed.{Passed}
 use Rattle.pace.specs.Pace.{SoundPace, periodsOf, endOf, passed}
 use Rattle.pace.proofs.Keeps.{started-sound, renewed-sound, moved-sound}
 use Rattle.pace.proofs.Lasting.{lead-high, tail-high, tail-low}
+use Rattle.lamp.specs.declared.Lamp.{Lamp}
+use Rattle.lamp.specs.Lamp.{SoundLamp}
+use Rattle.lamp.proofs.Keeps.{dark-sound, turned-sound, passed-sound}
 use Rattle.request.specs.declared.mode.Mode.{Mode}
 use Rattle.request.specs.declared.Place.{Place}
 use Rattle.request.specs.declared.Ask.{Ask}
 use Rattle.request.specs.declared.Ask.the-variants as ask
-use Rattle.request.specs.Mode.{isSensor}
+use Rattle.request.specs.Accepted.{AskWithin}
+use Rattle.request.specs.Mode.{isSensor, isLighting, isSilent}
 use Rattle.command.specs.Read.{CommandReading, sent, faulty, commandAt, Accepts}
 use Rattle.command.proofs.Commands.{command-within}
 use Rattle.connector.specs.declared.Owner.{Owner}
@@ -36,18 +40,19 @@ use Rattle.connector.specs.declared.Connector.{Connector}
 use Rattle.connector.specs.declared.Change.{Change}
 use Rattle.connector.specs.declared.Change.the-variants.{Nothing, Becomes}
 use Rattle.connector.specs.declared.Stepped.{Stepped}
+use Rattle.connector.specs.declared.pass.Passing.{Passing}
 use Rattle.connector.specs.declared.send.Verdict.{Verdict}
 use Rattle.connector.specs.declared.send.Verdict.the-variants as verdict
 use Rattle.connector.specs.Record.{freshConnector, SoundRun, SoundSending, SoundConnector, SoundChange, changed}
-use Rattle.connector.specs.Change.{sameMode, withMode, renewedSending, renewed, isRunning, stopped, owns, ownerLeft, disowned}
+use Rattle.connector.specs.Change.{sameMode, withMode, withLamp, renewedSending, renewed, isRunning, stopped, owns, ownerLeft, disowned}
 use Rattle.connector.specs.Send.{runOf, verdictOf}
-use Rattle.connector.specs.Step.{Made, setMode, contactSays, getContact, stops, byVerdict, commandStep, commandRead, sendStep, stepOf}
+use Rattle.connector.specs.Step.{Made, setMode, contactSays, getContact, stops, ofLamp, setLamp, getLamp, byVerdict, commandStep, commandRead, sendStep, stepOf}
 use Rattle.connector.specs.Reading.{readingStep}
-use Rattle.connector.specs.Pass.{pacedRun, passingRun, passingSending, passing, after}
+use Rattle.connector.specs.Pass.{pacedRun, passingRun, passingLamp, passingSending, passing, after}
 
 -- a connector that wakes is sound
 pub fresh-connector : (mode : Mode) → SoundConnector (freshConnector mode)
-fresh-connector mode = record { sends = refl; reads = tt }
+fresh-connector mode = record { sends = refl; reads = tt; lights = dark-sound }
 
 -- what a change makes of a sound connector
 pub changed-sound : (c : Connector) (change : Change) → SoundConnector c → SoundChange change → SoundConnector (changed c change)
@@ -60,11 +65,11 @@ changed-sound c (Becomes next) k s = s
 mode-connector : (c : Connector) (mode : Mode) → SoundConnector c → SoundConnector (withMode c mode)
 unfolding withMode
 mode-connector c mode k =
-    cond-case SoundConnector (sameMode (c .mode) mode) c _ (λ _. k) (λ _. record { sends = k .sends; reads = tt })
+    cond-case SoundConnector (sameMode (c .mode) mode) c _ (λ _. k) (λ _. record { sends = k .sends; reads = tt; lights = dark-sound })
 
 -- idle, with no owner
 stopped-connector : {c : Connector} → SoundConnector c → SoundConnector (stopped c)
-stopped-connector k = record { sends = refl; reads = k .reads }
+stopped-connector k = record { sends = refl; reads = k .reads; lights = k .lights }
 
 -- what is sent is sound whoever is left to own it
 disowned-sends : (sending : Sending) (owner : Owner) (connection : ℕ) → SoundSending sending owner
@@ -77,7 +82,7 @@ disowned-sends (Running r) owner connection s = s
 -- without an owner who has left
 pub disowned-connector : (c : Connector) (connection : ℕ) → SoundConnector c → SoundConnector (disowned c connection)
 disowned-connector c connection k =
-    record { sends = disowned-sends (c .sending) (c .owner) connection (k .sends); reads = k .reads }
+    record { sends = disowned-sends (c .sending) (c .owner) connection (k .sends); reads = k .reads; lights = k .lights }
 
 -- the same transmission, further on
 paced-run : {r : Run} {p : Pace} → SoundRun r → SoundPace p → SoundRun (pacedRun r p)
@@ -101,9 +106,20 @@ renewed-connector c k = go (c .sending) (k .sends)
         record {
           sends = paced-run s (renewed-sound (s .paced) (s .repeat-low) (s .repeat-high));
           reads = k .reads;
+          lights = k .lights;
         }
 
+-- with another lamp
+lamp-connector : {c : Connector} {x : Lamp} → SoundConnector c → SoundLamp x → SoundConnector (withLamp c x)
+lamp-connector k s = record { sends = k .sends; reads = k .reads; lights = s }
+
 -- ---- time
+
+lit-connector : (c : Connector) (n : ℕ) → SoundConnector c → SoundConnector (after c (passingLamp c n))
+unfolding passingLamp
+lit-connector c n k =
+    cond-case (λ (x : Passing). SoundConnector (after c x)) (eqb (c .lamp .gap .0) 0) _ _ (λ _. k)
+    (λ _. lamp-connector k (passed-sound n (k .lights)))
 
 -- some microseconds later
 pub passed-connector : (c : Connector) (place : Place) (n : ℕ) → SoundConnector c → SoundConnector (after c (passing c place n))
@@ -111,7 +127,7 @@ unfolding passed
 passed-connector c place n k = go (c .sending) (k .sends)
   where
     go : (sending : Sending) → SoundSending sending (c .owner) → SoundConnector (after c (passingSending c place n sending))
-    go Idle s = k
+    go Idle s = lit-connector c n k
     go (Running r) s =
         cond-case (λ (x : Passed). SoundConnector (after c (passingRun c place r x)))
         (leb (endOf (r .pace)) (r .pace .at .0 + n * r .fields .freq)) _ _
@@ -120,6 +136,7 @@ passed-connector c place n k = go (c .sending) (k .sends)
         record {
           sends = paced-run s (moved-sound (r .fields .freq) n (s .paced) (leb-false _ _ e));
           reads = k .reads;
+          lights = k .lights;
         })
 
 -- ---- a contact reading
@@ -131,7 +148,7 @@ reading-sound c value k =
     let P : Stepped → Type 0 = λ s. SoundChange (s .change) in
     cond-case P (not (isSensor (c .mode))) _ _ (λ _. tt) λ _.
     cond-case P (ltb 1 value) _ _ (λ _. tt) λ e.
-    record { sends = k .sends; reads = ltb-false 1 value e }
+    record { sends = k .sends; reads = ltb-false 1 value e; lights = k .lights }
 
 -- ---- what is asked of it
 
@@ -176,7 +193,23 @@ module _ (c : Connector) (kept : List ℕ) (connection : ℕ) (text : List ℕ) 
     -- a stopir
     stop-sound : SoundChange (stops c connection place .change)
     unfolding stops
-    stop-sound = cond-case (λ (s : Stepped). SoundChange (s .change)) (isSensor (c .mode)) _ _ (λ _. tt) (λ _. stopped-connector k)
+    stop-sound = cond-case (λ (s : Stepped). SoundChange (s .change)) (isSilent (c .mode)) _ _ (λ _. tt) (λ _. stopped-connector k)
+
+    -- a set_LED_LIGHTING within the limits
+    lamp-sound : (target ramp : ℕ) (more : Bool) → target ≤ 100 → ramp ≤ 10 → SoundChange (setLamp c place target ramp more .change)
+    unfolding ofLamp
+    lamp-sound target ramp more t r =
+        let P : Stepped → Type 0 = λ s. SoundChange (s .change) in
+        cond-case P (not (isLighting (c .mode))) _ _ (λ _. tt) λ _.
+        cond-case P more _ _ (λ _. tt) (λ _. lamp-connector k (turned-sound (k .lights) t r))
+
+    -- a get_LED_LIGHTING
+    lamp-kept : (more : Bool) → SoundChange (getLamp c place more .change)
+    unfolding ofLamp
+    lamp-kept more =
+        let P : Stepped → Type 0 = λ s. SoundChange (s .change) in
+        cond-case P (not (isLighting (c .mode))) _ _ (λ _. tt) λ _.
+        cond-case P more _ _ (λ _. tt) (λ _. tt)
 
     -- a sendir without a fault, by its verdict
     command-sound : (f : Fields) (ps : List Pair) → Accepts f ps → StillSound (commandStep c kept connection place f ps)
@@ -184,7 +217,7 @@ module _ (c : Connector) (kept : List ℕ) (connection : ℕ) (text : List ℕ) 
     command-sound f ps a = go (verdictOf c kept connection f ps)
       where
         go : (v : Verdict) → StillSound (byVerdict c kept connection place f ps v)
-        go verdict.Start = record { sends = run-sound f ps a; reads = k .reads }
+        go verdict.Start = record { sends = run-sound f ps a; reads = k .reads; lights = k .lights }
         go verdict.Renew = renewed-connector c k
         go verdict.Busy = tt
 
@@ -196,15 +229,17 @@ module _ (c : Connector) (kept : List ℕ) (connection : ℕ) (text : List ℕ) 
     -- any sendir
     send-sound : (at : ℕ) → StillSound (sendStep c kept connection text place at)
     unfolding sendStep
-    send-sound at = cond-case StillSound (isSensor (c .mode)) _ _ (λ _. tt) (λ _. read-sound at (commandAt text at) refl)
+    send-sound at = cond-case StillSound (isSilent (c .mode)) _ _ (λ _. tt) (λ _. read-sound at (commandAt text at) refl)
 
     -- whatever is asked
-    pub step-sound : (asked : Ask) → SoundChange (stepOf c kept connection text place asked .stepped .change)
-    step-sound (ask.SetMode mode) = mode-sound mode
-    step-sound ask.GetMode = tt
-    step-sound ask.GetContact = contact-sound
-    step-sound (ask.Send at) = send-sound at
-    step-sound ask.Stop = stop-sound
+    pub step-sound : (asked : Ask) → AskWithin (place .port) asked → SoundChange (stepOf c kept connection text place asked .stepped .change)
+    step-sound (ask.SetMode mode) w = mode-sound mode
+    step-sound ask.GetMode w = tt
+    step-sound ask.GetContact w = contact-sound
+    step-sound (ask.Send at) w = send-sound at
+    step-sound ask.Stop w = stop-sound
+    step-sound (ask.SetLamp target ramp more) w = lamp-sound target ramp more (w .1) (w .2)
+    step-sound (ask.GetLamp more) w = lamp-kept more
 
   -- ---- the counts stay as many
 
@@ -230,7 +265,7 @@ module _ (c : Connector) (kept : List ℕ) (connection : ℕ) (text : List ℕ) 
   -- any sendir
   send-size : (at : ℕ) → AsMany (sendStep c kept connection text place at)
   unfolding sendStep
-  send-size at = cond-case AsMany (isSensor (c .mode)) _ _ (λ _. refl) (λ _. read-size (commandAt text at))
+  send-size at = cond-case AsMany (isSilent (c .mode)) _ _ (λ _. refl) (λ _. read-size (commandAt text at))
 
   -- whatever is asked
   pub step-size : (asked : Ask) → length (stepOf c kept connection text place asked .kept) ≡ length kept
@@ -239,3 +274,5 @@ module _ (c : Connector) (kept : List ℕ) (connection : ℕ) (text : List ℕ) 
   step-size ask.GetContact = refl
   step-size (ask.Send at) = send-size at
   step-size ask.Stop = refl
+  step-size (ask.SetLamp target ramp more) = refl
+  step-size (ask.GetLamp more) = refl

@@ -3,8 +3,10 @@ use Prim.Native.Nat.{ℕ}
 use mathlib.Core.Bool.{Bool, true, false, cond}
 use lib.Dec.{eqb}
 use Rattle.pace.specs.Pace as pace
+use Rattle.lamp.specs.declared.Lamp.{Lamp}
+use Rattle.lamp.specs.Lamp.{dark}
 use Rattle.request.specs.declared.mode.Mode.{Mode}
-use Rattle.request.specs.declared.mode.Mode.the-variants.{Ir, Sensor, IrBlaster}
+use Rattle.request.specs.declared.mode.Mode.the-variants.{Ir, Sensor, IrBlaster, LedLighting}
 use Rattle.connector.specs.declared.Owner.{Owner}
 use Rattle.connector.specs.declared.Owner.the-variants.{Nobody, Connection}
 use Rattle.connector.specs.declared.Contact.the-variants.{Unread, Read}
@@ -17,25 +19,35 @@ abbrev pub sameMode : Mode → Mode → Bool
 sameMode Ir Ir = true
 sameMode Ir Sensor = false
 sameMode Ir IrBlaster = false
+sameMode Ir LedLighting = false
 sameMode Sensor Ir = false
 sameMode Sensor Sensor = true
 sameMode Sensor IrBlaster = false
+sameMode Sensor LedLighting = false
 sameMode IrBlaster Ir = false
 sameMode IrBlaster Sensor = false
 sameMode IrBlaster IrBlaster = true
+sameMode IrBlaster LedLighting = false
+sameMode LedLighting Ir = false
+sameMode LedLighting Sensor = false
+sameMode LedLighting IrBlaster = false
+sameMode LedLighting LedLighting = true
 
--- "a change of mode makes the contact unread, the present mode again changes nothing"
+-- "a change of mode makes the contact unread, the present mode again changes nothing"; "A connector entering this mode is at 0 with target 0"
 unfoldable pub withMode : Connector → Mode → Connector
 withMode c mode =
     cond (sameMode (c .mode) mode) c
-    (record { owner = c .owner; mode = mode; contact = Unread; sending = c .sending })
+    (record { owner = c .owner; mode = mode; contact = Unread; sending = c .sending; lamp = dark })
 
 abbrev pub withReading : Connector → ℕ → Connector
-withReading c value = record { owner = c .owner; mode = c .mode; contact = Read value; sending = c .sending }
+withReading c value = record { owner = c .owner; mode = c .mode; contact = Read value; sending = c .sending; lamp = c .lamp }
 
--- the same mode and contact, with another transmission or none
+abbrev pub withLamp : Connector → Lamp → Connector
+withLamp c lamp = record { owner = c .owner; mode = c .mode; contact = c .contact; sending = c .sending; lamp = lamp }
+
+-- the same mode, contact and lamp, with another transmission or none
 abbrev pub withSending : Connector → Owner → Sending → Connector
-withSending c owner sending = record { owner = owner; mode = c .mode; contact = c .contact; sending = sending }
+withSending c owner sending = record { owner = owner; mode = c .mode; contact = c .contact; sending = sending; lamp = c .lamp }
 
 -- a renewal, with the command's own repeat
 abbrev pub renewedRun : Run → Run

@@ -2,6 +2,7 @@
 use Prim.Native.Nat.{_≤_}
 use mathlib.Core.Path.{_≡_}
 use Rattle.pace.specs.Pace.{SoundPace}
+use Rattle.lamp.specs.Lamp.{SoundLamp, dark}
 use Rattle.request.specs.declared.mode.Mode.{Mode}
 use Rattle.connector.specs.declared.Owner.{Owner}
 use Rattle.connector.specs.declared.Owner.the-variants.{Nobody}
@@ -16,7 +17,7 @@ use Rattle.connector.specs.declared.Change.the-variants.{Nothing, Become
 
 -- in the mode that it wakes in
 abbrev pub freshConnector : Mode → Connector
-freshConnector mode = record { owner = Nobody; mode = mode; contact = Unread; sending = Idle }
+freshConnector mode = record { owner = Nobody; mode = mode; contact = Unread; sending = Idle; lamp = dark }
 
 -- ---- what every connector has that a fresh hub and the calls gave
 
@@ -40,6 +41,7 @@ SoundContact (Read value) = value ≤ 1
 pub record SoundConnector (c : Connector) : Type 0 where
   pub sends : SoundSending (c .sending) (c .owner)
   pub reads : SoundContact (c .contact)
+  pub lights : SoundLamp (c .lamp)
 
 -- and what becomes of one is sound
 abbrev pub SoundChange : Change → Type 0

@@ -20,6 +20,7 @@ RefusesBy (reply.State place state) = ⊥
 RefusesBy (reply.Complete place id) = ⊥
 RefusesBy (reply.Busy place id) = Unit
 RefusesBy (reply.Stopped place) = ⊥
+RefusesBy (reply.Lamp place level target) = ⊥
 
 abbrev pub Refuses : Answer → Type 0
 Refuses (answer.Refused number) = Unit

@@ -1,9 +1,10 @@
 -- What is asked of one connector: its answer, its change, and the counts that it keeps. In document 01's order: "sendir 013, 004, 005, 006,
--- 007, code faults, 007 for an offset beyond the code, busyIR; set_IR .. 029; stopir .. 013; getstate .. 018, 028".
+-- 007, code faults, 007 for an offset beyond the code, busyIR; set_IR .. 029; stopir .. 013; getstate .. 018, 028"; of a lamp 023, 017.
 use Prim.Native.Nat.{ℕ}
 use mathlib.Core.Path.{_≡_}
-use mathlib.Core.Bool.{cond, not}
-use mathlib.Core.List.{List}
+use mathlib.Core.Bool.{Bool, cond, not}
+use mathlib.Core.List.{List, [], _∷_}
+use Rattle.laws.specs.Checks.{_⇒_, first}
 use Rattle.laws.specs.Put.{storedIn}
 use Rattle.words.specs.declared.Pair.{Pair}
 use Rattle.words.specs.declared.Fields.{Fields}
@@ -12,8 +13,11 @@ use Rattle.request.specs.declared.mode.Mode.{Mode}
 use Rattle.request.specs.declared.Place.{Place}
 use Rattle.request.specs.declared.Ask.{Ask}
 use Rattle.request.specs.declared.Ask.the-variants as ask
-use Rattle.request.specs.Mode.{isSensor}
+use Rattle.request.specs.Mode.{isSensor, isLighting, isSilent}
+use Rattle.request.specs.Place.{nowhere}
 use Rattle.command.specs.Read.{CommandReading, sent, faulty, commandAt}
+use Rattle.lamp.specs.declared.Lamp.{Lamp}
+use Rattle.lamp.specs.Lamp.{percentOf, turned}
 use Rattle.reply.specs.declared.Reply.{Reply}
 use Rattle.reply.specs.declared.Reply.the-variants as reply
 use Rattle.connector.specs.declared.Owner.{Owner}
@@ -29,7 +33,7 @@ use Rattle.connector.specs.declared.Change.the-variants as change
 use Rattle.connector.specs.declared.Stepped.{Stepped}
 use Rattle.connector.specs.declared.send.Verdict.{Verdict}
 use Rattle.connector.specs.declared.send.Verdict.the-variants as verdict
-use Rattle.connector.specs.Change.{isRunning, owns, withMode, withSending, renewed, stopped}
+use Rattle.connector.specs.Change.{isRunning, owns, withMode, withLamp, withSending, renewed, stopped}
 use Rattle.connector.specs.Send.{runOf, verdictOf}
 
 -- the answer, the change, and the counts afterwards
@@ -78,11 +82,30 @@ getContact c place = cond (not (isSensor (c .mode))) (fails 18 place) (contactSa
 unfoldable pub alsoTold : Owner → ℕ → Owner
 alsoTold owner connection = cond (owns owner connection) Nobody owner
 
--- 013 "sendir or stopir to a connector in SENSOR"
+-- 013 "sendir or stopir to a connector in SENSOR", and on a lamp
 unfoldable pub stops : Connector → ℕ → Place → Stepped
 stops c connection place =
-    cond (isSensor (c .mode)) (fails 13 place)
+    cond (isSilent (c .mode)) (fails 13 place)
     (stepping (answer.Reply (reply.Stopped place) (alsoTold (c .owner) connection)) (change.Becomes (stopped c)))
+
+-- ---- a lamp: "present level, target"
+abbrev pub lampReply : Place → Lamp → Reply
+lampReply place x = reply.Lamp place (percentOf x) (x .target)
+
+-- "023 for .. a connector not in this mode, then 017 for a surplus"
+unfoldable pub ofLamp : Connector → Place → Bool → Stepped → Stepped
+ofLamp c place more otherwise = first
+    ((not (isLighting (c .mode)) ⇒ fails 23 place)
+    ∷ (more ⇒ fails 17 nowhere)
+    ∷ []) otherwise
+
+abbrev pub setLamp : Connector → Place → ℕ → ℕ → Bool → Stepped
+setLamp c place target ramp more =
+    let next = turned (c .lamp) target ramp in
+    ofLamp c place more (stepping (answer.Reply (lampReply place next) Nobody) (change.Becomes (withLamp c next)))
+
+abbrev pub getLamp : Connector → Place → Bool → Stepped
+getLamp c place more = ofLamp c place more (says (lampReply place (c .lamp)))
 
 -- ---- a sendir
 
@@ -105,7 +128,7 @@ commandRead c kept connection place (sent f ps) = commandStep c kept connection 
 
 unfoldable pub sendStep : Connector → List ℕ → ℕ → List ℕ → Place → ℕ → Made
 sendStep c kept connection text place at =
-    cond (isSensor (c .mode)) (keeping (fails 13 place) kept) (commandRead c kept connection place (commandAt text at))
+    cond (isSilent (c .mode)) (keeping (fails 13 place) kept) (commandRead c kept connection place (commandAt text at))
 
 -- ---- whatever is asked, at a place, by a connection's line
 abbrev pub stepOf : Connector → List ℕ → ℕ → List ℕ → Place → Ask → Made
@@ -114,3 +137,5 @@ stepOf c kept connection text place ask.GetMode = keeping (getMode c place) kept
 stepOf c kept connection text place ask.GetContact = keeping (getContact c place) kept
 stepOf c kept connection text place (ask.Send at) = sendStep c kept connection text place at
 stepOf c kept connection text place ask.Stop = keeping (stops c connection place) kept
+stepOf c kept connection text place (ask.SetLamp target ramp more) = keeping (setLamp c place target ramp more) kept
+stepOf c kept connection text place (ask.GetLamp more) = keeping (getLamp c place more) kept

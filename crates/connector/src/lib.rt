@@ -1,4 +1,5 @@
 // One connector: its record, what it answers, and what becomes of it. The counts of what it sends stand in a lent array of its own.
+use lamp::Lamp;
 use pace::Micros;
 use pace::Pace;
 use reply::Reply;
@@ -37,6 +38,7 @@ pub struct Connector {
     pub mode: Mode,
     pub contact: Contact,
     pub sending: Sending,
+    pub lamp: Lamp,
 }
 
 impl Connector {
@@ -48,6 +50,7 @@ impl Connector {
             mode,
             contact: Contact::Unread,
             sending: Sending::Idle,
+            lamp: Lamp::dark(),
         }
     }
 }

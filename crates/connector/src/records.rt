@@ -4,10 +4,11 @@ use crate::Contact;
 use crate::Owner;
 use crate::Run;
 use crate::Sending;
+use lamp::Lamp;
 use request::mode::Mode;
 ghost use mathlib.Core.Path.{_≡_};
 ghost use Rattle.connector.specs.Record.{SoundSending};
-ghost use Rattle.connector.specs.Change.{sameMode, withMode, withReading, withSending, isRunning, renewed, owns};
+ghost use Rattle.connector.specs.Change.{sameMode, withMode, withReading, withLamp, withSending, isRunning, renewed, owns};
 
 fn same_mode(a: Mode, b: Mode) -> bool
     ensures { λ r. ⌜ r ≡ sameMode a b ⌝ }
@@ -17,21 +18,30 @@ fn same_mode(a: Mode, b: Mode) -> bool
             Mode::Ir => true,
             Mode::Sensor => false,
             Mode::IrBlaster => false,
+            Mode::LedLighting => false,
         },
         Mode::Sensor => match b {
             Mode::Ir => false,
             Mode::Sensor => true,
             Mode::IrBlaster => false,
+            Mode::LedLighting => false,
         },
         Mode::IrBlaster => match b {
             Mode::Ir => false,
             Mode::Sensor => false,
             Mode::IrBlaster => true,
+            Mode::LedLighting => false,
+        },
+        Mode::LedLighting => match b {
+            Mode::Ir => false,
+            Mode::Sensor => false,
+            Mode::IrBlaster => false,
+            Mode::LedLighting => true,
         },
     }
 }
 
-// A change of mode makes the contact unread; the present mode again changes nothing.
+// A change of mode makes the contact unread and leaves no lamp but a dark one; the present mode again changes nothing.
 pub fn with_mode(c: Connector, mode: Mode) -> Connector
     ensures { λ r. ⌜ r ≡ withMode c mode ⌝ }
 {
@@ -46,6 +56,7 @@ pub fn with_mode(c: Connector, mode: Mode) -> Connector
         mode,
         contact: Contact::Unread,
         sending,
+        lamp: Lamp::dark(),
     }
 }
 
@@ -55,11 +66,30 @@ pub fn with_reading(c: Connector, value: u8) -> Connector
     let owner = c.owner;
     let mode = c.mode;
     let sending = c.sending;
+    let lamp = c.lamp;
     Connector {
         owner,
         mode,
         contact: Contact::Read(value),
         sending,
+        lamp,
+    }
+}
+
+// The same with its lamp as another.
+pub fn with_lamp(c: Connector, lamp: Lamp) -> Connector
+    ensures { λ r. ⌜ r ≡ withLamp c lamp ⌝ }
+{
+    let owner = c.owner;
+    let mode = c.mode;
+    let contact = c.contact;
+    let sending = c.sending;
+    Connector {
+        owner,
+        mode,
+        contact,
+        sending,
+        lamp,
     }
 }
 
@@ -72,17 +102,19 @@ pub fn is_running(sending: Sending) -> bool
     }
 }
 
-// The same mode and contact, with another transmission or none.
+// The same mode, contact and lamp, with another transmission or none.
 pub fn with_sending(c: Connector, owner: Owner, sending: Sending) -> Connector
     ensures { λ r. ⌜ r ≡ withSending c owner sending ⌝ }
 {
     let mode = c.mode;
     let contact = c.contact;
+    let lamp = c.lamp;
     Connector {
         owner,
         mode,
         contact,
         sending,
+        lamp,
     }
 }
 

@@ -134,7 +134,7 @@ fn commanded(
     }
 }
 
-// A sendir whose fields begin at a place of a line: 013 in SENSOR, its command's first fault, and then the command.
+// A sendir whose fields begin at a place of a line: 013 in SENSOR and on a lamp, its command's first fault, and then the command.
 pub fn send(
     c: Connector,
     kept: &mut [u16],
@@ -147,7 +147,7 @@ pub fn send(
     ensures { λ r. ⌜ Makes (sendStep c (now (kept .entry)) connection (now (text .entry)) place at) r (now (kept .exit)) ⌝ }
 {
     let mode = c.mode;
-    if request::mode::is_sensor(mode) {
+    if request::mode::is_silent(mode) {
         return fails(13, place);
     }
     let mut counts = [0u16; Code::MOST_COUNTS];

@@ -196,7 +196,7 @@ module _ (h : Hub) (store : List ℕ) (connection : ℕ) (text : List ℕ) where
       let slot = place .port - 1 in
       let k = s .each slot (omega (arith, w .0 .least, w .0 .most)) in
       let made = stepOf (connectorAt h slot) (keptAt store slot) connection text place ask in
-      changed-sound slot (made .stepped .change) (step-sound (connectorAt h slot) (keptAt store slot) connection text place k ask)
+      changed-sound slot (made .stepped .change) (step-sound (connectorAt h slot) (keptAt store slot) connection text place k ask (w .1))
   asked-sound (request.Relay place asked) w s =
       let slot = place .port - 1 in
       relay-sound (relayAt h slot) slot place asked (w .1)

@@ -34,6 +34,7 @@ one-mark c connection =
       mode = refl;
       contact = refl;
       sending = refl;
+      lamp = refl;
     }
 
 -- that of the connector in a slot

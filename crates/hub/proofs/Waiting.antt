@@ -12,7 +12,7 @@ use Rattle.request.specs.Place.{connectorIn}
 use Rattle.connector.specs.declared.Completion.{Completion}
 use Rattle.connector.specs.declared.Connector.{Connector}
 use Rattle.connector.specs.declared.pass.Passing.{Passing}
-use Rattle.connector.specs.declared.pass.Passing.the-variants.{Idle, Running, Complete}
+use Rattle.connector.specs.declared.pass.Passing.the-variants.{Still, Running, Complete}
 use Rattle.connector.specs.Pass.{passing, after, doneOf}
 use Rattle.hub.specs.declared.completions.Completions.{Completions}
 use Rattle.hub.specs.declared.wait.AllPassed.{AllPassed}
@@ -23,7 +23,7 @@ use Rattle.hub.proofs.Inserting.{put-in-is, ordered-more, ordered-lengt
 
 -- a connector completes one transmission at most
 done-few : (p : Passing) → length (doneOf p) ≤ 1
-done-few Idle = omega arith
+done-few Still = omega arith
 done-few (Running next) = omega arith
 done-few (Complete next completion) = omega arith
 
@@ -86,8 +86,8 @@ module _ (old : List Connector) (n : ℕ) where
       waiting-asks p e = sym (rw (p, waiting-at) at e)
 
       -- it stays idle
-      pub waiting-idle : passingAt old n slot ≡ Idle → Waiting all completions (slot + 1)
-      waiting-idle e =
+      pub waiting-still : passingAt old n slot ≡ Still → Waiting all completions (slot + 1)
+      waiting-still e =
           record {
             reached = omega arith;
             moved = now .moved ∙ each-left old becomes connectors size slot _ less (ap (after (inSlot old slot)) (sym e));

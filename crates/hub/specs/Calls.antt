@@ -1,4 +1,4 @@
--- The calls beside lines that take no time, and the question about the carriers.
+-- The calls beside lines that take no time, and the questions about carriers and levels.
 use Prim.Native.Nat.{ℕ, _-_}
 use mathlib.Core.Path.{_≡_}
 use mathlib.Core.Bool.{Bool, cond}
@@ -10,6 +10,7 @@ use Rattle.laws.specs.Put.{over}
 use Rattle.words.specs.Places.{connectors}
 use Rattle.reply.specs.declared.Reply.the-variants.{Complete}
 use Rattle.reply.specs.Reply.{replyText}
+use Rattle.lamp.specs.Lamp.{percentOf}
 use Rattle.connector.specs.declared.Answer.{Answer}
 use Rattle.connector.specs.declared.Answer.the-variants as answer
 use Rattle.connector.specs.declared.Completion.{Completion}
@@ -51,6 +52,13 @@ allCarriers all store = map (λ slot. carrierOf (keptAt store slot) (inSlot all 
 
 abbrev pub carriersOf : Hub → List ℕ → List Bool
 carriersOf h store = allCarriers (h .connectors) store
+
+-- for each connector the level of its lamp, "the exact one rounded down"; 0 where there is no lamp, for it is dark then
+abbrev pub allLevels : List Connector → List ℕ
+allLevels all = map (λ slot. percentOf (inSlot all slot .lamp)) slots
+
+abbrev pub levelsOf : Hub → List ℕ
+levelsOf h = allLevels (h .connectors)
 
 -- 101 "lent reply buffer under 128 bytes"
 abbrev pub completionText : Completion → List ℕ

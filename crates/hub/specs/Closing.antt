@@ -16,6 +16,7 @@ pub record OneMark (connection : ℕ) (before after : Connector) : Type 0 where
   pub mode : after .mode ≡ before .mode
   pub contact : after .contact ≡ before .contact
   pub sending : after .sending ≡ before .sending
+  pub lamp : after .lamp ≡ before .lamp
 
 pub record MarksOnly (connection : ℕ) (before after : Hub) : Type 0 where
   pub as-many : length (after .connectors) ≡ connectors

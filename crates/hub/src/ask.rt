@@ -19,7 +19,7 @@ use request::Turn;
 ghost use mathlib.Core.Path.{_≡_};
 ghost use Prim.Native.Nat.{_+_, _≤_};
 ghost use lib.ListN.{length, take, drop};
-ghost use Rattle.request.specs.Accepted.{Within};
+ghost use Rattle.request.specs.Accepted.{AskWithin, Within};
 ghost use Rattle.connector.specs.Record.{SoundConnector};
 ghost use Rattle.connector.specs.Step.{stepOf};
 ghost use Rattle.hub.specs.Record.{SoundHub, partSize};
@@ -35,7 +35,7 @@ fn step_in(
     place: Place,
     ask: Ask,
 ) -> Stepped
-    requires { ⌜ SoundConnector c × (from + partSize ≤ length (now store)) ⌝ }
+    requires { ⌜ SoundConnector c × (from + partSize ≤ length (now store)) × AskWithin (place .port) ask ⌝ }
     ensures { λ r. ⌜ Stored (stepOf c (take partSize (drop from (now (store .entry)))) connection (now (text .entry)) place ask)
         (now (store .entry)) from r (now (store .exit)) ⌝ }
 {

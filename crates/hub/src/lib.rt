@@ -17,7 +17,7 @@ ghost use mathlib.Core.Path.{_≡_};
 ghost use lib.ListN.{length};
 ghost use Rattle.hub.specs.Record.{freshHub, applied, SoundHub, InRange};
 ghost use Rattle.hub.specs.Line.{Writes, Answers, lineStep, overlongStep};
-ghost use Rattle.hub.specs.Calls.{readingCall, closedCall, carriersOf, CompletionWritten};
+ghost use Rattle.hub.specs.Calls.{readingCall, closedCall, carriersOf, levelsOf, CompletionWritten};
 ghost use Rattle.hub.specs.Wait.{waitCall};
 
 pub struct Hub {
@@ -185,6 +185,15 @@ impl Hub {
         crate::carriers::carriers_of(connectors, store)
     }
 
+    // The level of each connector's lamp in percent, 0 where there is none. It changes nothing.
+    pub fn levels(self) -> [u64; Hub::CONNECTORS]
+        requires { ⌜ SoundHub self ⌝ }
+        ensures { λ r. ⌜ r ≡ levelsOf self ⌝ }
+    {
+        let connectors = self.connectors;
+        crate::levels::levels_of(connectors)
+    }
+
     // The hub with what a call changed of it.
     pub fn applied(self, change: HubChange) -> Hub
         requires { ⌜ InRange change ⌝ }
@@ -226,4 +235,5 @@ mod carriers;
 mod closing;
 pub mod completions;
 mod fresh;
+mod levels;
 mod wait;

@@ -24,7 +24,7 @@ pub fn passed(connectors: [Connector; Hub::CONNECTORS], n: Micros) -> AllPassed
     let mut slot: usize = 0;
     while slot < Hub::CONNECTORS {
         match connector::pass::pass(all[slot], Place::connector(slot), n) {
-            Passing::Idle => {
+            Passing::Still => {
                 slot += 1;
             }
             Passing::Running(next) => {

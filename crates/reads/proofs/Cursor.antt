@@ -25,11 +25,11 @@ use Rattle.text.specs.Field.{endsField, afterComma, fieldIs, fieldWithin}
 use Rattle.request.specs.declared.address.Address.{Address}
 use Rattle.request.specs.declared.address.Address.the-variants as address
 use Rattle.request.specs.declared.mode.Mode.{Mode}
-use Rattle.request.specs.declared.mode.Mode.the-variants.{Ir, Sensor, IrBlaster}
+use Rattle.request.specs.declared.mode.Mode.the-variants.{Ir, Sensor, IrBlaster, LedLighting}
 use Rattle.request.specs.declared.mode.ModeRead.the-variants as mode
 use Rattle.request.specs.Place.{placeOf}
 use Rattle.request.specs.Address.{beyond, partOf, partAt, portRead, portAt, moduleRead, addressAt}
-use Rattle.request.specs.Mode.{modeAt, modeWord, isSensor}
+use Rattle.request.specs.Mode.{modeAt, modeWord, isSensor, isLighting, isSilent}
 
 -- ---- words
 
@@ -53,25 +53,46 @@ word-is (a ∷ w) (b ∷ s) n =
 
 -- a mode word, and the mode that it is
 unfoldable pub isMode : List ℕ → Bool
-isMode f = same (bytes "IR") f || same (bytes "SENSOR") f || same (bytes "IR_BLASTER") f
+isMode f = same (bytes "IR") f || same (bytes "SENSOR") f || same (bytes "IR_BLASTER") f || same (bytes "LED_LIGHTING") f
 
 unfoldable pub modeIn : List ℕ → Mode
-modeIn f = first ((same (bytes "IR") f ⇒ Ir) ∷ (same (bytes "SENSOR") f ⇒ Sensor) ∷ []) IrBlaster
+modeIn f = first
+    ((same (bytes "IR") f ⇒ Ir)
+    ∷ (same (bytes "SENSOR") f ⇒ Sensor)
+    ∷ (same (bytes "LED_LIGHTING") f ⇒ LedLighting)
+    ∷ []) IrBlaster
 
 pub word-back : (f : List ℕ) → isMode f ≡ true → modeWord (modeIn f) ≡ f
 unfolding isMode modeIn
 word-back f =
-    by-test (same (bytes "IR") f) (λ e. rw e (λ _. same-is (bytes "IR") f e)) λ e. rw e
-    (by-test (same (bytes "SENSOR") f) (λ g. rw g (λ _. same-is (bytes "SENSOR") f g)) λ g. rw g
-    (λ h. same-is (bytes "IR_BLASTER") f h))
+    by-test (same (bytes "IR") f) (λ e. rw (← same-is (bytes "IR") f e) (λ _. refl)) λ e. rw e
+    (by-test (same (bytes "SENSOR") f) (λ g. rw (← same-is (bytes "SENSOR") f g) (λ _. refl)) λ g. rw g
+    (by-test (same (bytes "IR_BLASTER") f) (λ h. rw (← same-is (bytes "IR_BLASTER") f h) (λ _. refl)) λ h. rw h
+    (λ l. rw (← same-is (bytes "LED_LIGHTING") f l))))
 
--- the word is SENSOR where the mode is
-pub sensor-is : (w : List ℕ) → is "SENSOR" w ≡ isSensor (modeIn w)
+-- the word is SENSOR, or LED_LIGHTING, where the mode is
+word-tests : (w : List ℕ) → (is "SENSOR" w ≡ isSensor (modeIn w)) × (is "LED_LIGHTING" w ≡ isLighting (modeIn w))
 unfolding modeIn
-sensor-is w =
-    by-test (is "IR" w)
-    (λ e. rw (e, ← same-is (bytes "IR") w e))
-    λ e. rw e (by-test (is "SENSOR" w) (λ f. rw f) (λ f. rw f))
+word-tests w =
+    by-test (is "IR" w) (λ e. rw (← same-is (bytes "IR") w e) (refl, refl)) λ e. rw e
+    (by-test (is "SENSOR" w) (λ f. rw (← same-is (bytes "SENSOR") w f) (refl, refl)) λ f. rw f
+    (by-test (is "LED_LIGHTING" w) (λ g. rw g (refl, refl)) (λ g. rw g (refl, refl))))
+
+pub sensor-is : (w : List ℕ) → is "SENSOR" w ≡ isSensor (modeIn w)
+sensor-is w = word-tests w .0
+
+pub lighting-is : (w : List ℕ) → is "LED_LIGHTING" w ≡ isLighting (modeIn w)
+lighting-is w = word-tests w .1
+
+-- it is one of the two where the mode is silent
+pub silent-is : (w : List ℕ) → (is "SENSOR" w || is "LED_LIGHTING" w) ≡ isSilent (modeIn w)
+silent-is w = rw (sensor-is w, lighting-is w) (go (modeIn w))
+  where
+    go : (mode : Mode) → (isSensor mode || isLighting mode) ≡ isSilent mode
+    go Ir = refl
+    go Sensor = refl
+    go IrBlaster = refl
+    go LedLighting = refl
 
 -- ---- numbers
 
@@ -296,14 +317,16 @@ module _ (s : List ℕ) (at : ℕ) where
   unfolding modeAt isMode modeIn
   mode-at =
       let f = fieldAt s at in
-      rw (word-is (bytes "IR") (drop at s) refl, word-is (bytes "SENSOR") (drop at s) refl, word-is (bytes "IR_BLASTER") (drop at s) refl)
-      (by-test (same (bytes "IR") f)
-      (λ e. rw e (ap (λ (w : List ℕ). mode.Known Ir (at + length w)) (same-is (bytes "IR") f e)))
-      λ e. rw e (by-test (same (bytes "SENSOR") f)
-      (λ g. rw g (ap (λ (w : List ℕ). mode.Known Sensor (at + length w)) (same-is (bytes "SENSOR") f g)))
-      λ g. rw g (by-test (same (bytes "IR_BLASTER") f)
-      (λ h. rw h (ap (λ (w : List ℕ). mode.Known IrBlaster (at + length w)) (same-is (bytes "IR_BLASTER") f h)))
-      (λ h. rw h))))
+      rw (
+        word-is (bytes "IR") (drop at s) refl,
+        word-is (bytes "SENSOR") (drop at s) refl,
+        word-is (bytes "IR_BLASTER") (drop at s) refl,
+        word-is (bytes "LED_LIGHTING") (drop at s) refl,
+      )
+      (by-test (same (bytes "IR") f) (λ e. rw (← same-is (bytes "IR") f e)) λ e. rw e
+      (by-test (same (bytes "SENSOR") f) (λ g. rw (← same-is (bytes "SENSOR") f g)) λ g. rw g
+      (by-test (same (bytes "IR_BLASTER") f) (λ h. rw (← same-is (bytes "IR_BLASTER") f h)) λ h. rw h
+      (by-test (same (bytes "LED_LIGHTING") f) (λ l. rw (← same-is (bytes "LED_LIGHTING") f l)) (λ l. rw l)))))
 
 -- ---- behind k commas
 pub record Cursor (s : List ℕ) (k at : ℕ) : Type 0 where

@@ -23,6 +23,7 @@ use Rattle.meaning.specs.Log.{Deed}
 use Rattle.meaning.specs.Table as table
 use Rattle.meaning.specs.Table.{Judged, Row, error, no}
 use Rattle.text.specs.Field.{afterComma, fieldIs}
+use Rattle.theorems.specs.Deeds.{silent}
 use Rattle.code.specs.Read.{Reading, pairs, fault}
 use Rattle.request.specs.declared.name.Name.{Name}
 use Rattle.request.specs.declared.name.Name.the-variants as name
@@ -31,7 +32,7 @@ use Rattle.request.specs.declared.name.Word.the-variants.{Alone, Named}
 use Rattle.request.specs.declared.name.WordRead.{WordRead}
 use Rattle.request.specs.declared.name.WordRead.the-variants.{Unknown, Known}
 use Rattle.request.specs.declared.mode.Mode.{Mode}
-use Rattle.request.specs.declared.mode.Mode.the-variants.{Ir, Sensor, IrBlaster}
+use Rattle.request.specs.declared.mode.Mode.the-variants.{Ir, Sensor, IrBlaster, LedLighting}
 use Rattle.request.specs.declared.Place.{Place}
 use Rattle.request.specs.declared.Fixed.{Fixed}
 use Rattle.request.specs.declared.Fixed.the-variants.{Devices, Version}
@@ -43,12 +44,12 @@ use Rattle.request.specs.Place.{placeOf}
 use Rattle.request.specs.Name.{fixedWord, nameOf, wordOf, wordAt}
 use Rattle.request.specs.Address.{beyond, hasModule, addressFault}
 use Rattle.request.specs.Mode.{modeWord, mayHave}
-use Rattle.request.specs.Request.{isPrintable, alone, setIrAt, setStateAt, getStateAt, atAddress, addressed, worded, asked, readRequest}
+use Rattle.request.specs.Request.{isPrintable, alone, setIrAt, setStateAt, getStateAt, rampAt, setLampAt, atAddress, addressed, worded, asked, readRequest}
 use Rattle.command.specs.Fields.{capped, fieldsAt}
 use Rattle.command.specs.Read.{codeRead, codeAt, commandAt}
 use Rattle.reply.specs.Reply.{fixedText}
 use Rattle.reads.specs.Readings.{readingOf}
-use Rattle.reads.specs.Meant.{sensorAt, meantCommand, meantRead, meant}
+use Rattle.reads.specs.Meant.{meantCommand, meantRead, meant}
 use Rattle.reads.proofs.Cursor.{word-is, isMode, modeIn, word-back, counts, counts-within, Cursor, start, field-is, next, over, within-is, address-is-at, mode-is}
 use Rattle.reads.proofs.Bytewise.{code-bytewise}
 
@@ -201,6 +202,7 @@ module _ (log : List Deed) (connection : ℕ) (s : List ℕ) where
       go Ir = refl
       go Sensor = refl
       go IrBlaster = by-test (eqb p 3) (λ f. rw f) (λ f. rw f)
+      go LedLighting = refl
 
   set-IR-row : nameOf name.SetIr ≡ field 0 → Agrees (table.set-IR log connection s) (addressed s name.SetIr)
   unfolding table.set-IR setIrAt isMode
@@ -216,6 +218,23 @@ module _ (log : List Deed) (connection : ℕ) (s : List ℕ) where
             (λ g. rw g (alone-row (next c) (request.Connector (placeOf 1 p) (SetMode (modeIn (field 2)))) ∙ rw (word-back (field 2) f)))))
             (λ f. rw f)));
       }
+
+  -- 017 stands behind a 023 that only the log knows of: the request says whether there is more
+  set-LED-LIGHTING-row : nameOf name.SetLamp ≡ field 0 → Agrees (table.set-LED-LIGHTING log connection s) (addressed s name.SetLamp)
+  unfolding table.set-LED-LIGHTING setLampAt rampAt
+  set-LED-LIGHTING-row e =
+      record {
+        is =
+            one-row name.SetLamp 1 e (λ j. refl) (omega arith)
+            (λ at c h. rw (h, within-is (next c) 1 100)
+            (by-test (within 1 100 (field 2)) (λ f. rw (f, within-is (next (next c)) 0 10)
+            (by-test (within 0 10 (field 3)) (λ g. rw (g, over (next (next c)))) (λ g. rw g)))
+            (λ f. rw f)));
+      }
+
+  get-LED-LIGHTING-row : nameOf name.GetLamp ≡ field 0 → Agrees (table.get-LED-LIGHTING log connection s) (addressed s name.GetLamp)
+  unfolding table.get-LED-LIGHTING
+  get-LED-LIGHTING-row e = record { is = one-row name.GetLamp 1 e (λ j. refl) (omega arith) (λ at c h. rw (h, over c)) }
 
   -- what is made of pairs whose offset is yet to be judged
   abbrev meantPairs : Fields → List Pair → Judged
@@ -233,7 +252,7 @@ module _ (log : List Deed) (connection : ℕ) (s : List ℕ) where
   sendir-row e =
       record {
         is = one-row name.SendIr 1 e (λ j. refl) (omega arith) (λ at c h. rw (h, within-is (next c) 0 65535)
-            (by-test (sensorAt p log) (λ z. rw z) λ z. rw z
+            (by-test (silent p log) (λ z. rw z) λ z. rw z
             (by-test (within 0 65535 (field 2)) (λ i. rw (i, within-is (next (next c)) 15000 500000)
             (by-test (within 15000 500000 (field 3)) (λ q. rw (q, within-is (next (next (next c))) 1 999999)
             (by-test (within 1 999999 (field 4)) (λ r. rw (r, within-is (next (next (next (next c)))) 1 383)
@@ -281,7 +300,9 @@ module _ (log : List Deed) (connection : ℕ) (s : List ℕ) where
       (by-word (Named name.SetState) refl setstate-row
       (by-word (Named name.GetState) refl getstate-row
       (by-word (Named name.SendIr) refl sendir-row
-      (by-word (Named name.StopIr) refl stopir-row unknown))))))) .is)
+      (by-word (Named name.StopIr) refl stopir-row
+      (by-word (Named name.SetLamp) refl set-LED-LIGHTING-row
+      (by-word (Named name.GetLamp) refl get-LED-LIGHTING-row unknown))))))))) .is)
 
   -- 015, and 001 for a byte
   too-long : ltb 4096 (length s) ≡ true → makes (readRequest s) ≡ no 15

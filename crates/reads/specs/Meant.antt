@@ -1,18 +1,18 @@
 -- What the log makes of a request that was read: the rows of the table once more, by the request and not by the line. `line-is` of
 -- proofs/Rows.antt says that the two are one.
 use Prim.Native.Nat.{ℕ}
-use mathlib.Core.Bool.{Bool, cond}
+use mathlib.Core.Bool.{cond}
 use mathlib.Core.List.{List, []}
 use Rattle.words.specs.declared.Pair.{Pair}
 use Rattle.words.specs.declared.Fields.{Fields}
-use Rattle.meaning.specs.Line.{is}
-use Rattle.meaning.specs.Log.{Deed, modeOf}
+use Rattle.meaning.specs.Log.{Deed}
 use Rattle.meaning.specs.Table.{Judged, error, reply}
-use Rattle.theorems.specs.Spelled.{modeSet, modeTold, relaySet, relayTold, contactTold, stopped}
+use Rattle.theorems.specs.Deeds.{silent}
+use Rattle.theorems.specs.Spelled.{modeSet, modeTold, relaySet, relayTold, contactTold, lampSet, lampTold, stopped}
 use Rattle.theorems.specs.Spelled as spelled
 use Rattle.request.specs.declared.Fixed.{Fixed}
 use Rattle.request.specs.declared.Ask.{Ask}
-use Rattle.request.specs.declared.Ask.the-variants.{SetMode, GetMode, GetContact, Send, Stop}
+use Rattle.request.specs.declared.Ask.the-variants.{SetMode, GetMode, GetContact, Send, Stop, SetLamp, GetLamp}
 use Rattle.request.specs.declared.Turn.{Turn}
 use Rattle.request.specs.declared.Turn.the-variants.{Set, Get}
 use Rattle.request.specs.declared.Request.{Request}
@@ -20,9 +20,6 @@ use Rattle.request.specs.declared.Request.the-variants as request
 use Rattle.request.specs.Mode.{modeWord}
 use Rattle.command.specs.Read.{CommandReading, sent, faulty, commandAt}
 use Rattle.reply.specs.Reply.{fixedText}
-
-abbrev pub sensorAt : ℕ → List Deed → Bool
-sensorAt p log = is "SENSOR" (modeOf p log)
 
 abbrev pub meantCommand : List Deed → ℕ → ℕ → Fields → List Pair → Judged
 meantCommand log connection p f ps = spelled.sent log connection p f ps
@@ -40,8 +37,10 @@ abbrev pub meantAsk : List Deed → ℕ → List ℕ → ℕ → Ask → Judged
 meantAsk log connection s p (SetMode mode) = modeSet log p (modeWord mode)
 meantAsk log connection s p GetMode = modeTold log p
 meantAsk log connection s p GetContact = contactTold log p
-meantAsk log connection s p (Send at) = cond (sensorAt p log) (error 13 1 p) (meantRead log connection p (commandAt s at))
+meantAsk log connection s p (Send at) = cond (silent p log) (error 13 1 p) (meantRead log connection p (commandAt s at))
 meantAsk log connection s p Stop = stopped log connection p
+meantAsk log connection s p (SetLamp target ramp more) = lampSet log p target ramp more
+meantAsk log connection s p (GetLamp more) = lampTold log p more
 
 -- those to relay p
 abbrev pub meantTurn : List Deed → ℕ → Turn → Judged

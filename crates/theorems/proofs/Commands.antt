@@ -140,10 +140,12 @@ silent-refuses log connection room s p f ps h x mode =
     let c : commanded log connection p f ps ≡ error 13 1 p = rw mode in
     sendir-judged log connection room s p f ps h x ∙ c
 
+-- in SENSOR
 pub sensor-refuses : (log : List Deed) (connection room : ℕ) (s : List ℕ) (p : ℕ) (f : Fields) (ps : List Pair) → Heard connection room
     → IsSendir s p f ps → inSensor p log ≡ true → judge log (line connection room s) ≡ error 13 1 p
 sensor-refuses log connection room s p f ps h x mode = silent-refuses log connection room s p f ps h x (rw mode)
 
+-- and in LED_LIGHTING
 pub lamp-refuses : (log : List Deed) (connection room : ℕ) (s : List ℕ) (p : ℕ) (f : Fields) (ps : List Pair) → Heard connection room
     → IsSendir s p f ps → inLighting p log ≡ true → judge log (line connection room s) ≡ error 13 1 p
 lamp-refuses log connection room s p f ps h x mode = silent-refuses log connection room s p f ps h x (rw (mode, or-true (inSensor p log)))

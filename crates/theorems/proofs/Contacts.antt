@@ -54,6 +54,10 @@ module _ (log : List Deed) (p connection room : ℕ) (s : List ℕ) where
       → judge log (line connection room s) ≡ error 28 1 p
   no-reading-028 a mode e = asked 1 a ∙ rw (mode, e)
 
+  -- 018 "getstate on a connector not in SENSOR"
+  pub no-sensor-018 : AsksState 1 p connection room s → inSensor p log ≡ false → judge log (line connection room s) ≡ error 18 1 p
+  no-sensor-018 a mode = asked 1 a ∙ rw mode
+
   -- "`state,1:p,s` with the last reading"
   pub last-reading-answered : (v : ℕ) → AsksState 1 p connection room s → inSensor p log ≡ true → contactOf p log ≡ some v
       → judge log (line connection room s) ≡ reply (text.line "state," 1 p (decimal v)) []

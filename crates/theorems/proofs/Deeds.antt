@@ -86,7 +86,7 @@ module _ (log : List Deed) (connection room : ℕ) (text : List ℕ) (c : connec
   m = table.m log connection text
 
   -- an address that the table lets pass has a port of its module
-  port-of : (k : ℕ) → not (within k k (part 58 0 (field log connection text 1))) ≡ false
+  pub port-of : (k : ℕ) → not (within k k (part 58 0 (field log connection text 1))) ≡ false
       → not (within 1 (portsOf m) (part 58 1 (field log connection text 1))) ≡ false → Port (portsOf k) p
   port-of k only port =
       let r = within-is k k (part 58 0 (field log connection text 1)) only in

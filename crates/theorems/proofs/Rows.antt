@@ -17,10 +17,11 @@ use Rattle.meaning.specs.Log.{Deed}
 use Rattle.meaning.specs.Table.{replied, Judged, refusal, Row, row, no, line, heard, judge, field, fixed, set-IR, get-IR, setstate, getstate, sendir, stopir, set-LED-LIGHTING, get-LED-LIGHTING, request}
 use Rattle.theorems.specs.Occasion.{saysError}
 
--- the words of a fixed reply begin neither as an error does nor as the state of a relay
+-- the words of a fixed reply begin neither as an error does, nor as the state of a relay, nor as a lamp's reply
 pub record Apart (words : List ℕ) : Type 0 where
   pub error : saysError (replied words none) ≡ false
   pub relay : same (bytes "state,2") (take 7 words) ≡ false
+  pub lamp : same (bytes "LED_LIGHTING,") (take 13 words) ≡ false
 
 module _ (log : List Deed) (connection : ℕ) (s : List ℕ) where
   -- the requests with a fixed reply are one case
@@ -31,8 +32,8 @@ module _ (log : List Deed) (connection : ℕ) (s : List ℕ) where
   unfolding request
   by-rows Q told sets gets states state sends stops lights lamp unknown =
       let name = field log connection s 0 in
-      named (is "getdevices" name) (told _ (record { error = refl; relay = refl }))
-      (named (is "getversion" name) (told _ (record { error = refl; relay = refl }))
+      named (is "getdevices" name) (told _ (record { error = refl; relay = refl; lamp = refl }))
+      (named (is "getversion" name) (told _ (record { error = refl; relay = refl; lamp = refl }))
       (named (is "set_IR" name) sets
       (named (is "get_IR" name) gets
       (named (is "setstate" name) states

@@ -30,6 +30,7 @@ did-silent h p call ds (halts r c _ _ _) ih e = by-test (eqb r p) (λ t. rw t) (
 did-silent h p call ds (leaves c _ _) ih e = ih e
 did-silent h p call ds (passes n _ _) ih e = none-later (now (logOf h)) n (lastOf p (logOf h)) (last-begun h p) (ih e)
 
+-- what is silent transmits nothing: its carrier is off
 pub silent-is-off : (h : List Call) (p : ℕ) → silent p (logOf h) ≡ true → onAir p (logOf h) ≡ none
 unfolding onAir
 silent-is-off [] p e = refl

@@ -38,6 +38,10 @@ in-sensor-means p log = (λ e. sym (same-is _ (modeOf p log) e), λ e. rw e)
 pub in-lighting-means : (p : ℕ) (log : List Deed) → (inLighting p log ≡ true) ↔ (modeOf p log ≡ bytes "LED_LIGHTING")
 in-lighting-means p log = (λ e. sym (same-is _ (modeOf p log) e), λ e. rw e)
 
+-- a lamp is no contact
+pub lamp-no-sensor : (p : ℕ) (log : List Deed) → inLighting p log ≡ true → inSensor p log ≡ false
+lamp-no-sensor p log e = rw (in-lighting-means p log .0 e)
+
 -- after every history each connector has one of the four modes
 did-mode : (p : ℕ) (log : List Deed) (call : Call) (ds : List Deed) → Did log call ds → ModeWord p (modeOf p log)
     → ModeWord p (modeOf p (ds ++ log))

@@ -7,3 +7,4 @@ pub mod Order
 pub mod Occasion
 pub mod Spelled
 pub mod Commands
+pub mod Lamps

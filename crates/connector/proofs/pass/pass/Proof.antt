@@ -1,5 +1,7 @@
 -- `connector::pass::pass` meets its contract.
+use mathlib.Core.Path.{sym, ap, _∙_}
 use native.Mathlib.Omega.{arith}
+use Rattle.connector.specs.Pass.{passingSending}
 use borrow.Author.Needs.{needs}
 use Rattle.connector.proofs.pass.pass.Statement.{statement}
 use Rattle.connector.proofs.pass.pass.Tie as tie
@@ -17,7 +19,7 @@ passed-requires : tie.Need-passed-requires
 passed-requires c κs =
     let sending = c .before .before .before .before in
     let start = sending .before .before in
-    let s = rw (sending .sending .given .1) at (start .pre .0) in
+    let s = rw (sending .sending .given .1) at (start .pre .0 .sends) in
     (s .paced, omega arith, s .freq-high, start .pre .1)
 
 enum-known-pace : tie.Need-enum-known-pace
@@ -35,8 +37,13 @@ cast-id c = search needs
 with-sending-requires-2 : tie.Need-with-sending-requires-2
 with-sending-requires-2 c κs = search needs
 
+lit-requires : tie.Need-lit-requires
+lit-requires c κs = search needs
+
 returns : tie.Need-returns
-returns c = search needs
+returns c =
+    let args = c .before .before .before .args in
+    c .lit .ensures ∙ ap (λ s. passingSending (args .c) (args .place) (args .wait .0) s) (sym (c .before .enum-told .given .1))
 
 returns-2 : tie.Need-returns-2
 returns-2 c =
@@ -53,6 +60,7 @@ pass-spec =
     tie.close
     (tie.spec
     enum-told
+    lit-requires
     enum-known-sending
     cast-passed
     passed-requires

@@ -12,9 +12,12 @@ returns : tie.Need-returns
 unfolding withMode
 returns c = rw (sym (c .before .same-mode .ensures) ∙ c .if1 .taken)
 
+dark-requires : tie.Need-dark-requires
+dark-requires c κs = search needs
+
 returns-2 : tie.Need-returns-2
 unfolding withMode
-returns-2 c = rw (sym (c .before .same-mode .ensures) ∙ c .if1 .left)
+returns-2 c = rw (sym (c .before .before .same-mode .ensures) ∙ c .before .if1 .left, c .dark .ensures)
 
 pub with-mode-spec : {M : Type 1} → statement M
-with-mode-spec = tie.close (tie.spec same-mode-requires returns returns-2)
+with-mode-spec = tie.close (tie.spec same-mode-requires returns dark-requires returns-2)

@@ -6,8 +6,8 @@ use borrow.Author.Needs.{needs}
 use Rattle.connector.proofs.send.send.Statement.{statement}
 use Rattle.connector.proofs.send.send.Tie as tie
 
-is-sensor-requires : tie.Need-is-sensor-requires
-is-sensor-requires c κs = search needs
+is-silent-requires : tie.Need-is-silent-requires
+is-silent-requires c κs = search needs
 
 fails-requires : tie.Need-fails-requires
 fails-requires c κs = search needs
@@ -15,8 +15,8 @@ fails-requires c κs = search needs
 returns : tie.Need-returns
 unfolding sendStep
 returns c =
-    let sensor = sym (c .before .before .is-sensor .ensures) ∙ c .before .if1 .taken in
-    record { result = rw sensor (c .fails .ensures); counts = rw sensor }
+    let silent = sym (c .before .before .is-silent .ensures) ∙ c .before .if1 .taken in
+    record { result = rw silent (c .fails .ensures); counts = rw silent }
 
 command-at-requires : tie.Need-command-at-requires
 command-at-requires c κs = search needs
@@ -41,7 +41,7 @@ commanded-requires c κs =
 returns-2 : tie.Need-returns-2
 returns-2 c =
     let reading = c .before .before .before .before in
-    let ready = sym (reading .before .before .before .is-sensor .ensures) ∙ reading .before .before .if1 .left in
+    let ready = sym (reading .before .before .before .is-silent .ensures) ∙ reading .before .before .if1 .left in
     let read = rw (c .before .before .number .given .1) at (reading .command-at .ensures) in
     fault-answered _ _ _ _ _ _ ready read (c .fails2 .ensures)
 
@@ -52,7 +52,7 @@ returns-3 : tie.Need-returns-3
 returns-3 c =
     let command = c .before .before .before .before .before .before in
     let reading = command .before .before in
-    let ready = sym (reading .before .before .before .is-sensor .ensures) ∙ reading .before .before .if1 .left in
+    let ready = sym (reading .before .before .before .is-silent .ensures) ∙ reading .before .before .if1 .left in
     let read = rw (command .f .given .1) at (reading .command-at .ensures) in
     sent-answered _ _ _ _ _ _ ready read (c .before .before .commanded .ensures)
 
@@ -60,7 +60,7 @@ pub send-spec : {M : Type 1} → statement M
 send-spec =
     tie.close
     (tie.spec
-    is-sensor-requires
+    is-silent-requires
     fails-requires
     returns
     command-at-requires

@@ -70,7 +70,7 @@ same-requires : tie.Need-same-requires
 same-requires c κs = search needs
 
 returns-4 : tie.Need-returns-4
-returns-4 c = search needs
+returns-4 c = rw (c .enum-told .given .1)
 
 returns-5 : tie.Need-returns-5
 unfolding sameCommand

@@ -34,6 +34,21 @@ enum-told-3 c = search needs
 stop-requires : tie.Need-stop-requires
 stop-requires c κs = search needs
 
+enum-known-ask-3 : tie.Need-enum-known-ask-3
+enum-known-ask-3 c = search needs
+
+set-lamp-requires : tie.Need-set-lamp-requires
+set-lamp-requires c κs =
+    let start = c .before .before .before .before .before in
+    let within = rw (c .before .ask3 .given .1) at (start .pre .2) in
+    (start .pre .0, within .1, within .2)
+
+enum-known-ask-4 : tie.Need-enum-known-ask-4
+enum-known-ask-4 c = search needs
+
+get-lamp-requires : tie.Need-get-lamp-requires
+get-lamp-requires c κs = search needs
+
 returns : tie.Need-returns
 returns c = rw (c .before .before .ask .given .1) (record { result = c .set-mode .ensures; counts = refl })
 
@@ -52,6 +67,12 @@ returns-4 c = rw (c .before .before .before .before .before .ask2 .given .1) (c 
 returns-5 : tie.Need-returns-5
 returns-5 c = rw (c .before .enum-told3 .given .1) (record { result = c .stop .ensures; counts = refl })
 
+returns-6 : tie.Need-returns-6
+returns-6 c = rw (c .before .before .ask3 .given .1) (record { result = c .set-lamp .ensures; counts = refl })
+
+returns-7 : tie.Need-returns-7
+returns-7 c = rw (c .before .before .ask4 .given .1) (record { result = c .get-lamp .ensures; counts = refl })
+
 pub step-spec : {M : Type 1} → statement M
 step-spec =
     tie.close
@@ -66,9 +87,15 @@ step-spec =
     send-requires
     enum-told-3
     stop-requires
+    enum-known-ask-3
+    set-lamp-requires
+    enum-known-ask-4
+    get-lamp-requires
     returns
     returns-2
     returns-3
     same-length
     returns-4
-    returns-5)
+    returns-5
+    returns-6
+    returns-7)

@@ -1,15 +1,19 @@
 -- `hub::ask::asked` meets its contract.
 use mathlib.Core.Path.{refl, ap, _∙_}
 use native.Mathlib.Omega.{arith}
-use Rattle.request.specs.Accepted.{ConnectorAt, RelayAt}
+use Rattle.request.specs.Accepted.{ConnectorAt, RelayAt, AskWithin}
 use Rattle.hub.specs.Line.{placed}
 use borrow.Author.Needs.{needs}
 use Rattle.hub.proofs.ask.asked.Statement.{statement}
 use Rattle.hub.proofs.ask.asked.Tie as tie
 
--- what is asked of a connector is asked of one that there is
+-- what is asked of a connector is within its limits, and asked of one that there is
+asked-within : (c : tie.After-known-told3)
+    → let place = c .before .request3 .given .0 .0 in ConnectorAt place × AskWithin (place .port) (c .before .request3 .given .0 .1 .0)
+asked-within c = rw (c .before .request3 .given .1) at (c .before .before .before .before .pre .1)
+
 connector-at : (c : tie.After-known-told3) → ConnectorAt (c .before .request3 .given .0 .0)
-connector-at c = (rw (c .before .request3 .given .1) at (c .before .before .before .before .pre .1)) .0
+connector-at c = asked-within c .0
 
 -- and what is asked of a relay of one that there is
 relay-at : (c : tie.After-known-told4) → RelayAt (c .before .request4 .given .0 .0)
@@ -45,7 +49,7 @@ mul-from c = omega (arith, connector-at (c .before .before) .most)
 step-in-requires : tie.Need-step-in-requires
 step-in-requires c κs =
     let at = connector-at (c .before .before .before) in
-    (c .before .before .before .before .before .before .before .pre .0 .each _ (omega (arith, at .least, at .most)), omega (arith, at .least, at .most))
+    (c .before .before .before .before .before .before .before .pre .0 .each _ (omega (arith, at .least, at .most)), omega (arith, at .least, at .most), asked-within (c .before .before .before) .1)
 
 placed-requires : tie.Need-placed-requires
 placed-requires c κs = search needs

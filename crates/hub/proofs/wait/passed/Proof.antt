@@ -5,7 +5,7 @@ use native.Mathlib.Omega.{arith}
 use lib.ListN.{length}
 use Rattle.words.specs.Places.{connectors}
 use Rattle.hub.specs.Wait.{passingAt}
-use Rattle.hub.proofs.Waiting.{Waiting, waiting-starts, waiting-at, waiting-asks, waiting-idle, waiting-runs, waiting-done, waiting-ends}
+use Rattle.hub.proofs.Waiting.{Waiting, waiting-starts, waiting-at, waiting-asks, waiting-still, waiting-runs, waiting-done, waiting-ends}
 use borrow.Author.Needs.{needs}
 use Rattle.hub.proofs.wait.passed.Statement.{statement}
 use Rattle.hub.proofs.wait.passed.Tie as tie
@@ -52,7 +52,7 @@ pass-requires : tie.Need-pass-requires Inv-loop μ-loop
 pass-requires c κs =
     let was = c .before .before .before in
     let start = was .before .before in
-    (rw (waiting-at _ _ (omega arith) (was .loop .inv) (omega arith)) (start .pre .0 (was .loop .slot) (omega arith) .sends), start .pre .1)
+    (rw (waiting-at _ _ (omega arith) (was .loop .inv) (omega arith)) (start .pre .0 (was .loop .slot) (omega arith)), start .pre .1)
 
 enum-told : tie.Need-enum-told Inv-loop μ-loop
 enum-told c = search needs
@@ -66,7 +66,7 @@ loop-less c = search needs
 loop-again : tie.Need-loop-again Inv-loop μ-loop
 loop-again c =
     let asked = c .before .before in
-    waiting-idle _ _ (omega arith) (asked .before .before .before .before .loop .inv) (omega arith) (gives asked ∙ c .enum-told .given .1)
+    waiting-still _ _ (omega arith) (asked .before .before .before .before .loop .inv) (omega arith) (gives asked ∙ c .enum-told .given .1)
 
 enum-known-next : tie.Need-enum-known-next Inv-loop μ-loop
 enum-known-next c = search needs

@@ -8,10 +8,10 @@ use Rattle.code.specs.Letters.{learnt}
 use Rattle.command.specs.Fields.{capped}
 use Rattle.writer.specs.CodeText.{codeText}
 use Rattle.writer.specs.Sendir.{sendirHead}
-use Rattle.composer.specs.Fault.{placeFault, fieldsFault, countsFault, sendirFault, wishFault}
+use Rattle.composer.specs.Fault.{placeFault, fieldsFault, countsFault, sendirFault, lampFault, wishFault}
 use Rattle.composer.specs.Compose.{wishText, refusalOf, composing}
 use Rattle.composer.specs.Worked.{rows}
 
 pub worked : map (λ row. row .composed) rows ≡ map (λ row. row .is) rows
-unfolding decimal samePair legal learnt capped codeText sendirHead placeFault fieldsFault countsFault sendirFault wishFault wishText refusalOf composing
+unfolding decimal samePair legal learnt capped codeText sendirHead placeFault fieldsFault countsFault sendirFault lampFault wishFault wishText refusalOf composing
 worked = refl

@@ -19,7 +19,7 @@ use Rattle.command.specs.Given.{takenAs}
 use Rattle.writer.specs.declared.Form.{Form}
 use Rattle.writer.specs.Sendir.{sendirLine, Outcome, refused, line, bytesOf}
 use Rattle.composer.specs.declared.Wish.{Wish}
-use Rattle.composer.specs.declared.Wish.the-variants.{Fixed, SetMode, GetMode, SetState, GetState, Stop}
+use Rattle.composer.specs.declared.Wish.the-variants.{Fixed, SetMode, GetMode, SetState, GetState, Stop, SetLamp, GetLamp}
 use Rattle.composer.specs.declared.Composed.{Composed}
 use Rattle.composer.specs.declared.Composed.the-variants.{Refused, Line}
 use Rattle.composer.specs.Fault.{orElse, sendirFault, wishFault}
@@ -32,6 +32,9 @@ wishText (GetMode a) = addressText (bytes "get_IR,") a
 wishText (SetState a state) = addressText (bytes "setstate,") a ++ (bytes "," ++ decimal state)
 wishText (GetState a) = addressText (bytes "getstate,") a
 wishText (Stop a) = addressText (bytes "stopir,") a
+wishText (SetLamp a target ramp) =
+    addressText (bytes "set_LED_LIGHTING,") a ++ (bytes "," ++ (decimal target ++ bytes "," ++ decimal ramp))
+wishText (GetLamp a) = addressText (bytes "get_LED_LIGHTING,") a
 
 -- the number of a refusal: the fault, "then 101 for a lent line under 4,096 bytes"; 0 where there is neither
 unfoldable pub refusalOf : ℕ → ℕ → ℕ

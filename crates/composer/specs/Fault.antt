@@ -15,7 +15,7 @@ use Rattle.request.specs.Mode.{mayHave}
 use Rattle.command.specs.declared.given.Given.{Given}
 use Rattle.command.specs.declared.given.Command.{Command}
 use Rattle.composer.specs.declared.Wish.{Wish}
-use Rattle.composer.specs.declared.Wish.the-variants.{Fixed, SetMode, GetMode, SetState, GetState, Stop}
+use Rattle.composer.specs.declared.Wish.the-variants.{Fixed, SetMode, GetMode, SetState, GetState, Stop, SetLamp, GetLamp}
 
 -- the one that is first: 0 is none
 abbrev pub orElse : ℕ → ℕ → ℕ
@@ -55,6 +55,10 @@ sendirFault c counts =
     (orElse (countsFault (c .fields .freq) counts)
     (first ((leb (length counts) (c .fields .offset) ⇒ 7) ∷ []) 0)))
 
+-- "set_LED_LIGHTING takes a target of 1 to 100 and a ramp of 0 to 10"; "023 for a bad target, bad ramp"
+unfoldable pub lampFault : ℕ → ℕ → ℕ
+lampFault target ramp = first ((not (between 1 100 target) ⇒ 23) ∷ (ltb 10 ramp ⇒ 23) ∷ []) 0
+
 -- "set_IR 023, 014", "setstate 023"; "getstate takes 1 or 2"
 unfoldable pub wishFault : Wish → ℕ
 wishFault (Fixed fixed) = 0
@@ -63,3 +67,5 @@ wishFault (GetMode a) = placeFault 1 1 a
 wishFault (SetState a state) = orElse (placeFault 2 2 a) (first ((ltb 1 state ⇒ 23) ∷ []) 0)
 wishFault (GetState a) = placeFault 1 2 a
 wishFault (Stop a) = placeFault 1 1 a
+wishFault (SetLamp a target ramp) = orElse (placeFault 1 1 a) (lampFault target ramp)
+wishFault (GetLamp a) = placeFault 1 1 a

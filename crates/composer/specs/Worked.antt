@@ -3,12 +3,12 @@ use Prim.Native.Nat.{ℕ}
 use Prim.Native.String.{String}
 use mathlib.Core.List.{List, [], _∷_}
 use Rattle.laws.specs.Bytes.{bytes}
-use Rattle.request.specs.declared.mode.Mode.the-variants.{IrBlaster}
+use Rattle.request.specs.declared.mode.Mode.the-variants.{IrBlaster, LedLighting}
 use Rattle.request.specs.Place.{placeOf}
 use Rattle.command.specs.declared.given.Command.{Command}
 use Rattle.writer.specs.declared.Form.the-variants.{Plain, Lettered}
 use Rattle.writer.specs.Sendir.{Outcome, refused, line}
-use Rattle.composer.specs.declared.Wish.the-variants.{SetMode, SetState, GetState}
+use Rattle.composer.specs.declared.Wish.the-variants.{SetMode, SetState, GetState, SetLamp, GetLamp}
 use Rattle.composer.specs.Compose.{wishOutcome, sendirOutcome}
 
 pub record Row : Type 0 where
@@ -44,4 +44,12 @@ rows =
     ∷ (wishOutcome 4096 (SetMode (placeOf 1 3) IrBlaster) ⇢ ends "set_IR,1:3,IR_BLASTER\r")
     ∷ (wishOutcome 10 (SetState (placeOf 2 1) 2) ⇢ refused 23)
     ∷ (wishOutcome 4096 (GetState (placeOf 2 4)) ⇢ refused 3)
+    ∷ (wishOutcome 4096 (SetMode (placeOf 1 2) LedLighting) ⇢ ends "set_IR,1:2,LED_LIGHTING\r")
+    ∷ (wishOutcome 4096 (SetLamp (placeOf 1 3) 100 10) ⇢ ends "set_LED_LIGHTING,1:3,100,10\r")
+    ∷ (wishOutcome 4096 (SetLamp (placeOf 2 1) 0 1) ⇢ refused 2)
+    ∷ (wishOutcome 4096 (SetLamp (placeOf 1 1) 0 1) ⇢ refused 23)
+    ∷ (wishOutcome 10 (SetLamp (placeOf 1 1) 101 1) ⇢ refused 23)
+    ∷ (wishOutcome 10 (SetLamp (placeOf 1 1) 1 11) ⇢ refused 23)
+    ∷ (wishOutcome 10 (SetLamp (placeOf 1 1) 1 0) ⇢ refused 101)
+    ∷ (wishOutcome 4096 (GetLamp (placeOf 1 1)) ⇢ ends "get_LED_LIGHTING,1:1\r")
     ∷ []

@@ -53,6 +53,14 @@ fn put_wish(line: &mut [u8], wish: Wish) -> usize
             let a = put_address(line, b"stopir,", place);
             put_word(line, a, b"\r")
         }
+        Wish::SetLamp(place, target, ramp) => {
+            let a = put_address(line, b"set_LED_LIGHTING,", place);
+            reply::put_two(line, a, target, ramp)
+        }
+        Wish::GetLamp(place) => {
+            let a = put_address(line, b"get_LED_LIGHTING,", place);
+            put_word(line, a, b"\r")
+        }
     }
 }
 

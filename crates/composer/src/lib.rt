@@ -3,7 +3,7 @@ use request::Fixed;
 use request::Place;
 use request::mode::Mode;
 
-// A request to compose, but for sendir. A mode is one of its three, so that 023 cannot come from it.
+// A request to compose, but for sendir. A mode is one of its four, so that 023 cannot come from it.
 pub enum Wish {
     Fixed(Fixed),
     SetMode(Place, Mode),
@@ -11,6 +11,9 @@ pub enum Wish {
     SetState(Place, u64),
     GetState(Place),
     Stop(Place),
+    // a target and a ramp
+    SetLamp(Place, u64, u64),
+    GetLamp(Place),
 }
 
 // The length of the line that was composed, with its CR, or a refusal.

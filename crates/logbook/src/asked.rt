@@ -78,6 +78,17 @@ fn set_state(s: &[u8], at: usize, place: Place) -> Asked {
     }
 }
 
+// set_LED_LIGHTING M P TARGET RAMP
+fn set_lamp(s: &[u8], at: usize, place: Place) -> Asked {
+    let NumberRead::Good(target, end) = item::number_at(s, at) else {
+        return Asked::Other;
+    };
+    match item::last_at(s, end) {
+        NumberRead::Bad => Asked::Other,
+        NumberRead::Good(ramp, _) => Asked::Wish(Wish::SetLamp(place, target, ramp)),
+    }
+}
+
 fn form_of(word: &[u8]) -> FormRead {
     if scan::is_word(word, b" plain") {
         return FormRead::Good(Form::Plain);
@@ -147,6 +158,9 @@ pub fn asked_of(s: &[u8], counts: &mut [u64]) -> Asked
     if scan::is_word(name, b"setstate") {
         return set_state(s, at, place);
     }
+    if scan::is_word(name, b"set_LED_LIGHTING") {
+        return set_lamp(s, at, place);
+    }
     if scan::is_word(name, b"sendir") {
         return sendir(s, at, place, counts);
     }
@@ -161,6 +175,9 @@ pub fn asked_of(s: &[u8], counts: &mut [u64]) -> Asked
     }
     if scan::is_word(name, b"stopir") {
         return Asked::Wish(Wish::Stop(place));
+    }
+    if scan::is_word(name, b"get_LED_LIGHTING") {
+        return Asked::Wish(Wish::GetLamp(place));
     }
     Asked::Other
 }

@@ -67,6 +67,7 @@ fn put_mode(out: &mut [u8], used: usize, place: Place, mode: Mode) -> usize {
         Mode::Ir => put_word(out, o, b" IR"),
         Mode::Sensor => put_word(out, o, b" SENSOR"),
         Mode::IrBlaster => put_word(out, o, b" IR_BLASTER"),
+        Mode::LedLighting => put_word(out, o, b" LED_LIGHTING"),
     }
 }
 
@@ -77,6 +78,12 @@ fn put_device(out: &mut [u8], used: usize, device: Device) -> usize {
         Device::Relays => put_word(out, used, b"device 2"),
         Device::End => put_word(out, used, b"enddevices"),
     }
+}
+
+fn put_lamp(out: &mut [u8], used: usize, place: Place, level: u64, target: u64) -> usize {
+    let o = put_value(out, used, b"lamp ", place, level);
+    let p = put_byte(out, o, b' ');
+    put_decimal(out, p, target)
 }
 
 fn put_what(out: &mut [u8], used: usize, heard: Heard) -> usize {
@@ -90,6 +97,7 @@ fn put_what(out: &mut [u8], used: usize, heard: Heard) -> usize {
         Heard::Error(number, place) => put_error(out, used, place, number),
         Heard::Version => put_word(out, used, b"version"),
         Heard::Listed(device) => put_device(out, used, device),
+        Heard::Lamp(place, level, target) => put_lamp(out, used, place, level, target),
     }
 }
 

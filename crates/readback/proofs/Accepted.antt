@@ -8,8 +8,9 @@ use native.Mathlib.Omega.{arith}
 use borrow.Author.Tests.{le-leb, ltb-false, ne-eqb, not-false}
 use lib.Dec.{ltb, eqb}
 use lib.ListN.{length, take}
+use Rattle.laws.specs.Checks.{between}
 use Rattle.laws.specs.Lists.{all}
-use Rattle.laws.proofs.Choice.{by-test, cond-case, not-both, guard, and-true}
+use Rattle.laws.proofs.Choice.{by-test, cond-case, not-both, guard, and-true, between-most}
 use Rattle.laws.proofs.Lists.{all-weaker}
 use Rattle.words.specs.Pairs.{pairsOf}
 use Rattle.theorems.specs.Spelled.{command, IsSendir}
@@ -30,7 +31,7 @@ use Rattle.lines.proofs.Feeding.{feed-is-lines}
 use Rattle.composer.specs.declared.Wish.{Wish}
 use Rattle.composer.specs.declared.Wish.the-variants as wish
 use Rattle.composer.specs.declared.Composed.the-variants.{Line}
-use Rattle.composer.specs.Fault.{placeFault, sendirFault, wishFault}
+use Rattle.composer.specs.Fault.{placeFault, sendirFault, lampFault, wishFault}
 use Rattle.composer.specs.Compose.{wishText, wishOutcome, sendirOutcome, Composes}
 use Rattle.readback.specs.Composed.{requestOf, Wide, WideWish}
 use Rattle.composer.proofs.Faults.{no-fault, neither, place-within}
@@ -73,7 +74,7 @@ place-wide least most a h e =
     (omega (arith, w .most-module), omega (arith, w .most-port))
 
 fine-wide : (w : Wish) → wishFault w ≡ 0 → WideWish w
-unfolding wishFault
+unfolding wishFault lampFault
 fine-wide (wish.Fixed fixed) e = tt
 fine-wide (wish.SetMode a mode) e = place-wide 1 1 a (omega arith) (neither (placeFault 1 1 a) _ e .0)
 fine-wide (wish.GetMode a) e = place-wide 1 1 a (omega arith) e
@@ -84,6 +85,14 @@ fine-wide (wish.SetState a state) e =
     (w .0, w .1, omega arith)
 fine-wide (wish.GetState a) e = place-wide 1 2 a (omega arith) e
 fine-wide (wish.Stop a) e = place-wide 1 1 a (omega arith) e
+fine-wide (wish.SetLamp a target ramp) e =
+    let both = neither (placeFault 1 1 a) (lampFault target ramp) e in
+    let w = place-wide 1 1 a (omega arith) (both .0) in
+    let lit = no-fault (not (between 1 100 target)) 23 _ (omega arith) (both .1) in
+    let most = between-most 1 100 target (not-false _ (lit .0)) in
+    let slow = ltb-false 10 ramp (no-fault (ltb 10 ramp) 23 0 (omega arith) (lit .1) .0) in
+    (w .0, w .1, omega arith, omega arith)
+fine-wide (wish.GetLamp a) e = place-wide 1 1 a (omega arith) e
 
 wished : (w : Wish) → isFault (requestOf w) ≡ false
 wished (wish.Fixed fixed) = refl
@@ -92,6 +101,8 @@ wished (wish.GetMode a) = refl
 wished (wish.SetState a state) = refl
 wished (wish.GetState a) = by-test (eqb (a .m) 1) (λ e. rw e) (λ e. rw e)
 wished (wish.Stop a) = refl
+wished (wish.SetLamp a target ramp) = refl
+wished (wish.GetLamp a) = refl
 
 module _ {before : List ℕ} (w : Wish) {after : List ℕ} {n : ℕ} (composed : Composes (wishOutcome (length before) w) before (Line n) after) where
   made : LineComposed (wishFault w) (wishText w) before after n

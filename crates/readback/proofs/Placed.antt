@@ -23,7 +23,7 @@ use Rattle.meaning.specs.Line.{isNumber, within, isAddress}
 use Rattle.theorems.specs.Spelled.{fields, at}
 use Rattle.request.specs.declared.Place.{Place}
 use Rattle.request.specs.declared.name.Name.{Name}
-use Rattle.request.specs.declared.name.Name.the-variants.{SetIr, GetIr, SetState, GetState, SendIr, StopIr}
+use Rattle.request.specs.declared.name.Name.the-variants.{SetIr, GetIr, SetState, GetState, SendIr, StopIr, SetLamp, GetLamp}
 use Rattle.request.specs.declared.name.Word.the-variants.{Named}
 use Rattle.request.specs.declared.name.WordRead.the-variants.{Known}
 use Rattle.request.specs.Place.{placeOf}
@@ -139,6 +139,8 @@ name-read SetState x = refl
 name-read GetState x = refl
 name-read SendIr x = refl
 name-read StopIr x = refl
+name-read SetLamp x = refl
+name-read GetLamp x = refl
 
 name-fair : (n : Name) → all fair (nameOf n) ≡ true
 name-fair SetIr = refl
@@ -147,6 +149,8 @@ name-fair SetState = refl
 name-fair GetState = refl
 name-fair SendIr = refl
 name-fair StopIr = refl
+name-fair SetLamp = refl
+name-fair GetLamp = refl
 
 abbrev pub addressOf : Place → List ℕ
 addressOf a = at (decimal (a .m)) (decimal (a .port))

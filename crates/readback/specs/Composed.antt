@@ -1,7 +1,7 @@
 -- What the theorems on composed requests speak of: the request that a wish is, and a sendir spelled out.
 use Prim.Native.Nat.{ℕ, _<_, _^_}
 use mathlib.Core.Path.{_≡_}
-use mathlib.Core.Bool.{cond}
+use mathlib.Core.Bool.{false, cond}
 use mathlib.Core.List.{List, _∷_, map}
 use lib.Dec.{eqb}
 use lib.ListN.{length, getD}
@@ -20,7 +20,7 @@ use Rattle.request.specs.Request.{readRequest}
 use Rattle.command.specs.declared.given.Command.{Command}
 use Rattle.command.specs.Read.{faulty, commandAt}
 use Rattle.composer.specs.declared.Wish.{Wish}
-use Rattle.composer.specs.declared.Wish.the-variants.{Fixed, SetMode, GetMode, SetState, GetState, Stop}
+use Rattle.composer.specs.declared.Wish.the-variants.{Fixed, SetMode, GetMode, SetState, GetState, Stop, SetLamp, GetLamp}
 
 -- the request that the hub is to read
 abbrev pub requestOf : Wish → Request
@@ -30,6 +30,8 @@ requestOf (GetMode a) = Connector a ask.GetMode
 requestOf (SetState a state) = Relay a (turn.Set state)
 requestOf (GetState a) = cond (eqb (a .m) 1) (Connector a ask.GetContact) (Relay a turn.Get)
 requestOf (Stop a) = Connector a ask.Stop
+requestOf (SetLamp a target ramp) = Connector a (ask.SetLamp target ramp false)
+requestOf (GetLamp a) = Connector a (ask.GetLamp false)
 
 -- a machine's number
 abbrev pub Wide : ℕ → Type 0
@@ -43,6 +45,8 @@ placeIn (GetMode a) = a
 placeIn (SetState a state) = a
 placeIn (GetState a) = a
 placeIn (Stop a) = a
+placeIn (SetLamp a target ramp) = a
+placeIn (GetLamp a) = a
 
 -- the numbers of a wish are a machine's
 abbrev pub WideWish : Wish → Type 0
@@ -52,6 +56,8 @@ WideWish (GetMode a) = Wide (a .m) × Wide (a .port)
 WideWish (SetState a state) = Wide (a .m) × Wide (a .port) × Wide state
 WideWish (GetState a) = Wide (a .m) × Wide (a .port)
 WideWish (Stop a) = Wide (a .m) × Wide (a .port)
+WideWish (SetLamp a target ramp) = Wide (a .m) × Wide (a .port) × Wide target × Wide ramp
+WideWish (GetLamp a) = Wide (a .m) × Wide (a .port)
 
 -- each of some counts is
 abbrev pub EachWide : List ℕ → Type 0

@@ -81,6 +81,33 @@ slice-aggregate-put-word-3 c = search needs
 put-word-requires-3 : tie.Need-put-word-requires-3
 put-word-requires-3 c κs = search needs
 
+enum-known-wish-7 : tie.Need-enum-known-wish-7
+enum-known-wish-7 c = search needs
+
+slice-aggregate-put-address-6 : tie.Need-slice-aggregate-put-address-6
+slice-aggregate-put-address-6 c = search needs
+
+put-address-requires-6 : tie.Need-put-address-requires-6
+put-address-requires-6 c κs = search needs
+
+put-two-requires : tie.Need-put-two-requires
+put-two-requires c κs = search needs
+
+enum-known-wish-8 : tie.Need-enum-known-wish-8
+enum-known-wish-8 c = search needs
+
+slice-aggregate-put-address-7 : tie.Need-slice-aggregate-put-address-7
+slice-aggregate-put-address-7 c = search needs
+
+put-address-requires-7 : tie.Need-put-address-requires-7
+put-address-requires-7 c κs = search needs
+
+slice-aggregate-put-word-4 : tie.Need-slice-aggregate-put-word-4
+slice-aggregate-put-word-4 c = search needs
+
+put-word-requires-4 : tie.Need-put-word-requires-4
+put-word-requires-4 c κs = search needs
+
 same-length : tie.Need-same-length
 same-length c = search needs
 
@@ -138,6 +165,26 @@ returns-6 c =
     let wish = put-address .before .before .before .before in
     rw (wish .wish6 .given .1) (then (put-address .put-address5 .ensures .0) (c .before .before .put-word3 .ensures))
 
+same-length-7 : tie.Need-same-length-7
+same-length-7 c = search needs
+
+returns-7 : tie.Need-returns-7
+unfolding wishText
+returns-7 c =
+    let put-address = c .before .before .before .before .before .before in
+    let wish = put-address .before .before .before .before in
+    rw (wish .wish7 .given .1) (rw append-assoc (then (put-address .put-address6 .ensures .0) (c .before .before .put-two .ensures)))
+
+same-length-8 : tie.Need-same-length-8
+same-length-8 c = search needs
+
+returns-8 : tie.Need-returns-8
+unfolding wishText
+returns-8 c =
+    let put-address = c .before .before .before .before .before .before .before in
+    let wish = put-address .before .before .before .before in
+    rw (wish .wish8 .given .1) (then (put-address .put-address7 .ensures .0) (c .before .before .put-word4 .ensures))
+
 pub put-wish-spec : {M : Type 1} → statement M
 put-wish-spec =
     tie.close
@@ -167,6 +214,15 @@ put-wish-spec =
     put-address-requires-5
     slice-aggregate-put-word-3
     put-word-requires-3
+    enum-known-wish-7
+    slice-aggregate-put-address-6
+    put-address-requires-6
+    put-two-requires
+    enum-known-wish-8
+    slice-aggregate-put-address-7
+    put-address-requires-7
+    slice-aggregate-put-word-4
+    put-word-requires-4
     same-length
     returns
     same-length-2
@@ -178,4 +234,8 @@ put-wish-spec =
     same-length-5
     returns-5
     same-length-6
-    returns-6)
+    returns-6
+    same-length-7
+    returns-7
+    same-length-8
+    returns-8)

@@ -58,6 +58,7 @@ head-sound kind connection length =
     cond-case SoundStep (eqb kind (letter "r")) _ _ (λ _. whole-sound _ 1 connection length tt) λ _.
     cond-case SoundStep (eqb kind (letter "w")) _ _ (λ _. whole-sound _ 4 connection length (wait-step-sound connection 0 0 (omega arith) (omega arith))) λ _.
     cond-case SoundStep (eqb kind (letter "c")) _ _ (λ _. whole-sound _ 0 connection length tt) λ _.
+    cond-case SoundStep (eqb kind (letter "l")) _ _ (λ _. whole-sound _ 0 connection length tt) λ _.
     cond-case SoundStep (eqb kind (letter "d")) _ _ (λ _. whole-sound _ 0 connection length tt) λ _.
     passing-sound length
 

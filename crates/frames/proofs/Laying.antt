@@ -1,8 +1,7 @@
 -- For the functions that lay frames: lengths, and the completions of a wait one by one.
 use Prim.Native.Nat.{ℕ, _+_, _*_, _^_, _≤_, _<_}
 use mathlib.Core.Path.{_≡_, refl, sym, ap, _∙_}
-use mathlib.Core.Bool.{Bool}
-use mathlib.Core.List.{List, [], _∷_, _++_, append-assoc, append-nil}
+use mathlib.Core.List.{List, [], _∷_, _++_, map, append-assoc, append-nil}
 use native.Mathlib.Nat.{pow-le-pow-right}
 use native.Mathlib.Numerals.{add-one}
 use native.Mathlib.Omega.{arith}
@@ -19,8 +18,8 @@ use Rattle.connector.specs.declared.Owner.the-variants as owner
 use Rattle.connector.specs.declared.Answer.{Answer}
 use Rattle.connector.specs.declared.Answer.the-variants as answer
 use Rattle.connector.specs.declared.Completion.{Completion}
-use Rattle.frames.specs.Layout.{fourBytes}
-use Rattle.frames.specs.Output.{replyFrames, answerFrames, completionFrame, completionFrames, bit, carriersFrame}
+use Rattle.frames.specs.Layout.{fourBytes, frameOf}
+use Rattle.frames.specs.Output.{replyFrames, answerFrames, completionFrame, completionFrames}
 
 -- the number of three bytes of a wait at most
 pub wait-small : (come number : ℕ) → come ≤ 3 → number < 256 ^ come → number < 16777216
@@ -44,10 +43,10 @@ answer-fits connection (answer.Refused number) = omega arith
 answer-fits connection answer.Taken = omega arith
 answer-fits connection (answer.Reply r also) = omega (arith, reply-length connection also (replyText r), reply-fits r)
 
--- three carriers
-pub carriers-are : (on : List Bool) (d : Bool) → length on ≡ 3
-    → carriersFrame on ≡ 99 ∷ 0 ∷ 0 ∷ 3 ∷ bit (getD on 0 d) ∷ bit (getD on 1 d) ∷ bit (getD on 2 d) ∷ []
-carriers-are on d three = ap carriersFrame (made-of on 3 d three)
+-- a byte for each of three
+pub each-is : {A : Type 0} (kind : ℕ) (f : A → ℕ) (l : List A) (d : A) → length l ≡ 3
+    → frameOf kind 0 (map f l) ≡ frameOf kind 0 (f (getD l 0 d) ∷ f (getD l 1 d) ∷ f (getD l 2 d) ∷ [])
+each-is kind f l d three = ap (λ m. frameOf kind 0 (map f m)) (made-of l 3 d three)
 
 -- ---- completions
 pub completion-fits : (c : Completion) → length (completionFrame c) ≤ 136

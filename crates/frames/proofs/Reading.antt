@@ -17,7 +17,7 @@ use Rattle.frames.specs.declared.Event.{Event}
 use Rattle.frames.specs.declared.Event.the-variants as event
 use Rattle.frames.specs.declared.Step.{Step}
 use Rattle.frames.specs.Layout.{letter, fourBytes, numberOf, frameOf, Said, stream, event as says, refused, saidBy}
-use Rattle.frames.specs.Layout.{Input, piece, closed, reading, wait, carriers, due, encoded, meant, Sayable, encodedAll, meantAll, SayableAll}
+use Rattle.frames.specs.Layout.{Input, piece, closed, reading, wait, carriers, levels, due, encoded, meant, Sayable, encodedAll, meantAll, SayableAll}
 use Rattle.frames.specs.Read.{pieceOf, passing, more, gives, other, whole, pieceStep, waitStep, headStep, nextStep}
 use Rattle.frames.specs.Read.{SoundFrame, goesOn, reading as readingOf, counting, readOf}
 use Rattle.frames.proofs.Keeps.{next-sound}
@@ -114,8 +114,9 @@ head-read kind connection s =
     by-test (eqb kind (letter "r")) (λ t. rw (eqb-true kind 114 t) (whole-read _ 1 connection s _ (reading-read connection s))) λ r.
     by-test (eqb kind (letter "w")) (λ t. rw (eqb-true kind 119 t) (whole-read _ 4 connection s _ (wait-read connection s))) λ w.
     by-test (eqb kind (letter "c")) (λ t. rw (eqb-true kind 99 t) (whole-read _ 0 connection s _ (gives-read event.Carriers s))) λ c.
+    by-test (eqb kind (letter "l")) (λ t. rw (eqb-true kind 108 t) (whole-read _ 0 connection s _ (gives-read event.Levels s))) λ l.
     by-test (eqb kind (letter "d")) (λ t. rw (eqb-true kind 100 t) (whole-read _ 0 connection s _ (gives-read event.Due s))) λ d.
-    rw (b, x, r, w, c, d) (other-read connection 0 s)
+    rw (b, x, r, w, c, l, d) (other-read connection 0 s)
 
 pub frame-read : (kind connection : ℕ) (s : List ℕ) → length s ≤ 65535
     → heard frame.Between (frameOf kind connection s) ≡ record { says = saidBy kind connection s; frame = frame.Between }
@@ -138,6 +139,7 @@ input-read (reading port value) h =
     frame-read (letter "r") port (value ∷ []) (omega arith) ∙ rw e
 input-read (wait any n) h = frame-read (letter "w") any (fourBytes n) (omega arith) ∙ rw (four-read n h)
 input-read (carriers any) h = frame-read (letter "c") any [] (omega arith)
+input-read (levels any) h = frame-read (letter "l") any [] (omega arith)
 input-read (due any) h = frame-read (letter "d") any [] (omega arith)
 
 -- bytes behind others

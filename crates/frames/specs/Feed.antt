@@ -14,6 +14,7 @@ told (event.Closed connection) = says (event.Closed connection) ∷ []
 told (event.Reading port value) = says (event.Reading port value) ∷ []
 told (event.Wait connection micros) = says (event.Wait connection micros) ∷ []
 told event.Carriers = says event.Carriers ∷ []
+told event.Levels = says event.Levels ∷ []
 told event.Due = says event.Due ∷ []
 told (event.Refused connection number) = says (event.Refused connection number) ∷ []
 

@@ -9,7 +9,7 @@ use Rattle.laws.specs.Bytes.{bytes}
 use Rattle.laws.specs.Checks.{_⇒_, first}
 use Rattle.pace.specs.Pace.{micros}
 use Rattle.frames.specs.declared.Event.{Event}
-use Rattle.frames.specs.declared.Event.the-variants.{Closed, Reading, Wait, Carriers, Due, Refused}
+use Rattle.frames.specs.declared.Event.the-variants.{Closed, Reading, Wait, Carriers, Levels, Due, Refused}
 
 -- ---- "Every number of several bytes has its high byte first."
 abbrev pub lowByte : ℕ → ℕ
@@ -56,6 +56,7 @@ saidBy kind connection s = first
     ∷ ((eqb kind (letter "r") && eqb (length s) 1) ⇒ event (Reading connection (numberOf s)) ∷ [])
     ∷ ((eqb kind (letter "w") && eqb (length s) 4) ⇒ event (Wait connection (micros (numberOf s))) ∷ [])
     ∷ ((eqb kind (letter "c") && eqb (length s) 0) ⇒ event Carriers ∷ [])
+    ∷ ((eqb kind (letter "l") && eqb (length s) 0) ⇒ event Levels ∷ [])
     ∷ ((eqb kind (letter "d") && eqb (length s) 0) ⇒ event Due ∷ [])
     ∷ []) (refused connection 0)
 
@@ -66,6 +67,7 @@ pub data Input : Type 0 where
   reading : ℕ → ℕ → Input
   wait : ℕ → ℕ → Input
   carriers : ℕ → Input
+  levels : ℕ → Input
   due : ℕ → Input
 
 unfoldable pub encoded : Input → List ℕ
@@ -74,6 +76,7 @@ encoded (closed connection) = frameOf (letter "x") connection []
 encoded (reading port value) = frameOf (letter "r") port (value ∷ [])
 encoded (wait any n) = frameOf (letter "w") any (fourBytes n)
 encoded (carriers any) = frameOf (letter "c") any []
+encoded (levels any) = frameOf (letter "l") any []
 encoded (due any) = frameOf (letter "d") any []
 
 -- what it says, where it can be said: a piece is one of the eight connections', and its bytes and a wait's microseconds are within what a
@@ -84,6 +87,7 @@ meant (closed connection) = event (Closed connection) ∷ []
 meant (reading port value) = event (Reading port value) ∷ []
 meant (wait any n) = event (Wait any (micros n)) ∷ []
 meant (carriers any) = event Carriers ∷ []
+meant (levels any) = event Levels ∷ []
 meant (due any) = event Due ∷ []
 
 abbrev pub Sayable : Input → Type 0
@@ -92,6 +96,7 @@ Sayable (closed connection) = Unit
 Sayable (reading port value) = Unit
 Sayable (wait any n) = n < 256 ^ 4
 Sayable (carriers any) = Unit
+Sayable (levels any) = Unit
 Sayable (due any) = Unit
 
 -- inputs one after the other

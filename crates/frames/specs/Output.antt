@@ -6,7 +6,7 @@ use mathlib.Core.Bool.{Bool, true, false}
 use mathlib.Core.List.{List, [], _∷_, _++_, map}
 use lib.ListN.{take}
 use Rattle.request.specs.declared.mode.Mode.{Mode}
-use Rattle.request.specs.declared.mode.Mode.the-variants.{Ir, Sensor, IrBlaster}
+use Rattle.request.specs.declared.mode.Mode.the-variants.{Ir, Sensor, IrBlaster, LedLighting}
 use Rattle.reply.specs.Reply.{replyText}
 use Rattle.connector.specs.declared.Owner.{Owner}
 use Rattle.connector.specs.declared.Owner.the-variants as owner
@@ -37,12 +37,13 @@ answerFrames connection (answer.Refused number) = refusalFrame connection number
 answerFrames connection answer.Taken = []
 answerFrames connection (answer.Reply r also) = replyFrames connection also (replyText r)
 
--- ---- `s`: "a connector: 1, port, mode (0 IR, 1 SENSOR, 2 IR_BLASTER), 1 if it transmits and 0 if not, and the id in two bytes (0 if not); a
--- relay: 2, port, state"
+-- ---- `s`: "a connector: 1, port, mode (0 IR, 1 SENSOR, 2 IR_BLASTER, 3 LED_LIGHTING), 1 if it transmits and 0 if not, the id in two bytes (0 if
+-- not), and its lamp's target (0 where there is no lamp); a relay: 2, port, state"
 abbrev pub modeNumber : Mode → ℕ
 modeNumber Ir = 0
 modeNumber Sensor = 1
 modeNumber IrBlaster = 2
+modeNumber LedLighting = 3
 
 abbrev pub transmits : Sending → ℕ
 transmits Idle = 0
@@ -56,7 +57,8 @@ abbrev pub sendingBytes : Sending → List ℕ
 sendingBytes s = transmits s ∷ twoBytes (idOf s)
 
 abbrev pub connectorFrame : ℕ → ℕ → Connector → List ℕ
-connectorFrame connection slot c = frameOf (letter "s") connection (1 ∷ (slot + 1) ∷ modeNumber (c .mode) ∷ sendingBytes (c .sending))
+connectorFrame connection slot c =
+    frameOf (letter "s") connection (1 ∷ (slot + 1) ∷ modeNumber (c .mode) ∷ sendingBytes (c .sending) ++ c .lamp .target ∷ [])
 
 unfoldable pub changeFrames : ℕ → HubChange → List ℕ
 changeFrames connection change.Nothing = []
@@ -86,6 +88,10 @@ bit false = 0
 
 abbrev pub carriersFrame : List Bool → List ℕ
 carriersFrame on = frameOf (letter "c") 0 (map bit on)
+
+-- ---- `l`: "one for each connector: its lamp's level in percent, rounded down, 0 where there is no lamp"
+abbrev pub levelsFrame : List ℕ → List ℕ
+levelsFrame levels = frameOf (letter "l") 0 (map lowByte levels)
 
 -- ---- `d`: "none, or four: microseconds"
 abbrev pub notDueFrame : List ℕ

@@ -66,6 +66,7 @@ headStep kind connection length = first
     ∷ (eqb kind (letter "r") ⇒ whole (more (frame.Reading connection)) 1 connection length)
     ∷ (eqb kind (letter "w") ⇒ whole (waitStep connection 0 0) 4 connection length)
     ∷ (eqb kind (letter "c") ⇒ whole (gives event.Carriers) 0 connection length)
+    ∷ (eqb kind (letter "l") ⇒ whole (gives event.Levels) 0 connection length)
     ∷ (eqb kind (letter "d") ⇒ whole (gives event.Due) 0 connection length)
     ∷ []) (other connection 0 length)
 
@@ -104,6 +105,7 @@ isNothing (event.Closed connection) = false
 isNothing (event.Reading port value) = false
 isNothing (event.Wait connection micros) = false
 isNothing event.Carriers = false
+isNothing event.Levels = false
 isNothing event.Due = false
 isNothing (event.Refused connection number) = false
 

@@ -45,6 +45,7 @@ pub enum Event {
     Reading { port: u8, value: u8 },
     Wait { connection: u8, micros: Micros },
     Carriers,
+    Levels,
     Due,
     Refused { connection: u8, number: u64 },
 }
@@ -81,6 +82,7 @@ fn is_nothing(event: Event) -> bool
             micros: _,
         } => false,
         Event::Carriers => false,
+        Event::Levels => false,
         Event::Due => false,
         Event::Refused {
             connection: _,
@@ -199,6 +201,9 @@ fn head_step(kind: u8, connection: u8, length: usize) -> Step
     }
     if kind == b'c' {
         return whole(gives(Event::Carriers), 0, connection, length);
+    }
+    if kind == b'l' {
+        return whole(gives(Event::Levels), 0, connection, length);
     }
     if kind == b'd' {
         return whole(gives(Event::Due), 0, connection, length);

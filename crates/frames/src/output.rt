@@ -20,7 +20,7 @@ ghost use Rattle.hub.specs.Record.{InRange};
 ghost use Rattle.hub.specs.Line.{bytesOf};
 ghost use Rattle.frames.specs.Layout.{lowByte, twoBytes, fourBytes, frameOf};
 ghost use Rattle.frames.specs.Output.{refusalFrame, replyFrames, answerFrames, modeNumber, sendingBytes, connectorFrame, changeFrames};
-ghost use Rattle.frames.specs.Output.{toWhom, completionFrame, waitFrames, bit, carriersFrame, notDueFrame, dueFrame};
+ghost use Rattle.frames.specs.Output.{toWhom, completionFrame, waitFrames, bit, carriersFrame, levelsFrame, notDueFrame, dueFrame};
 
 fn put_byte(out: &mut [u8], at: usize, b: u8) -> usize
     requires { ⌜ at + 1 ≤ length (now out) ⌝ }
@@ -112,6 +112,7 @@ fn mode_number(mode: Mode) -> u8
         Mode::Ir => 0,
         Mode::Sensor => 1,
         Mode::IrBlaster => 2,
+        Mode::LedLighting => 3,
     }
 }
 
@@ -134,16 +135,18 @@ fn put_sending(out: &mut [u8], at: usize, sending: Sending) -> usize
 
 // How a connector is now.
 fn put_connector(out: &mut [u8], at: usize, connection: u8, slot: usize, c: Connector) -> usize
-    requires { ⌜ (slot ≤ 2) × (at + 10 ≤ length (now out)) ⌝ }
+    requires { ⌜ (slot ≤ 2) × (at + 11 ≤ length (now out)) ⌝ }
     ensures { λ r. ⌜ Put (now (out .entry)) at (connectorFrame connection slot c) (now (out .exit)) r ⌝ }
 {
     let mode = c.mode;
     let sending = c.sending;
-    let a = put_head(out, at, b's', connection, 6);
+    let lamp = c.lamp;
+    let a = put_head(out, at, b's', connection, 7);
     let b = put_byte(out, a, 1);
     let d = put_byte(out, b, (slot + 1) as u8);
     let e = put_byte(out, d, mode_number(mode));
-    put_sending(out, e, sending)
+    let f = put_sending(out, e, sending);
+    put_byte(out, f, lamp.target)
 }
 
 // How a relay is now.
@@ -159,7 +162,7 @@ fn put_relay(out: &mut [u8], at: usize, connection: u8, slot: usize, state: u64)
 
 // What a line of a connection changed.
 pub fn put_change(out: &mut [u8], at: usize, connection: u8, change: HubChange) -> usize
-    requires { ⌜ InRange change × (at + 10 ≤ length (now out)) ⌝ }
+    requires { ⌜ InRange change × (at + 11 ≤ length (now out)) ⌝ }
     ensures { λ r. ⌜ Put (now (out .entry)) at (changeFrames connection change) (now (out .exit)) r ⌝ }
 {
     match change {
@@ -232,15 +235,38 @@ fn bit(on: bool) -> u8
     if on { 1 } else { 0 }
 }
 
+// A frame with a byte for each connector.
+fn put_each(out: &mut [u8], at: usize, kind: u8, first: u8, second: u8, third: u8) -> usize
+    requires { ⌜ at + 7 ≤ length (now out) ⌝ }
+    ensures { λ r. ⌜ Put (now (out .entry)) at (frameOf kind 0 (first ∷ second ∷ third ∷ [])) (now (out .exit)) r ⌝ }
+{
+    let a = put_head(out, at, kind, 0, 3);
+    let b = put_byte(out, a, first);
+    let d = put_byte(out, b, second);
+    put_byte(out, d, third)
+}
+
 // Whether each connector's carrier is on.
 pub fn put_carriers(out: &mut [u8], at: usize, on: [bool; Hub::CONNECTORS]) -> usize
     requires { ⌜ at + 7 ≤ length (now out) ⌝ }
     ensures { λ r. ⌜ Put (now (out .entry)) at (carriersFrame on) (now (out .exit)) r ⌝ }
 {
-    let a = put_head(out, at, b'c', 0, 3);
-    let b = put_byte(out, a, bit(on[0]));
-    let d = put_byte(out, b, bit(on[1]));
-    put_byte(out, d, bit(on[2]))
+    put_each(out, at, b'c', bit(on[0]), bit(on[1]), bit(on[2]))
+}
+
+// The level of each connector's lamp in percent.
+pub fn put_levels(out: &mut [u8], at: usize, levels: [u64; Hub::CONNECTORS]) -> usize
+    requires { ⌜ at + 7 ≤ length (now out) ⌝ }
+    ensures { λ r. ⌜ Put (now (out .entry)) at (levelsFrame levels) (now (out .exit)) r ⌝ }
+{
+    put_each(
+        out,
+        at,
+        b'l',
+        low_byte(levels[0]),
+        low_byte(levels[1]),
+        low_byte(levels[2]),
+    )
 }
 
 // No completion is due.

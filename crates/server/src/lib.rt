@@ -11,7 +11,7 @@ use pace::Micros;
 use reply::Reply;
 ghost use mathlib.Core.Path.{_≡_};
 ghost use lib.ListN.{length};
-ghost use Rattle.hub.specs.Calls.{carriersOf};
+ghost use Rattle.hub.specs.Calls.{carriersOf, levelsOf};
 ghost use Rattle.server.specs.Record.{freshServer, SoundServer};
 ghost use Rattle.server.specs.Piece.{pieceStep, Serves};
 ghost use Rattle.server.specs.Calls.{closedCall, readingCall, waitCall, dueOf};
@@ -150,6 +150,14 @@ impl Server {
         ensures { λ r. ⌜ r ≡ carriersOf (self .hub) (now (store .entry)) ⌝ }
     {
         self.hub.carriers(store)
+    }
+
+    // The level of each connector's lamp in percent, 0 where there is none. It changes nothing.
+    pub fn levels(self) -> [u64; Hub::CONNECTORS]
+        requires { ⌜ SoundServer self ⌝ }
+        ensures { λ r. ⌜ r ≡ levelsOf (self .hub) ⌝ }
+    {
+        self.hub.levels()
     }
 
     // When the next completion is due, as the longest wait would show it. It changes nothing.

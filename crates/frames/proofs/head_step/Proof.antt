@@ -62,12 +62,22 @@ returns-6 : tie.Need-returns-6
 unfolding headStep
 returns-6 c = rw (ne-eqb _ _ (c .before .before .before .before .before .before .before .if1 .left), ne-eqb _ _ (c .before .before .before .before .before .before .if2 .left), ne-eqb _ _ (c .before .before .before .before .before .if3 .left), ne-eqb _ _ (c .before .before .before .before .if4 .left), ne-eqb _ _ (c .before .before .before .if5 .left), eq-eqb _ _ (c .before .before .if6 .taken), ← c .before .gives3 .ensures) (c .whole5 .ensures)
 
-other-requires : tie.Need-other-requires
-other-requires c κs = search needs
+gives-requires-4 : tie.Need-gives-requires-4
+gives-requires-4 c κs = search needs
+
+whole-requires-6 : tie.Need-whole-requires-6
+whole-requires-6 c κs = search needs
 
 returns-7 : tie.Need-returns-7
 unfolding headStep
-returns-7 c = rw (ne-eqb _ _ (c .before .before .before .before .before .before .if1 .left), ne-eqb _ _ (c .before .before .before .before .before .if2 .left), ne-eqb _ _ (c .before .before .before .before .if3 .left), ne-eqb _ _ (c .before .before .before .if4 .left), ne-eqb _ _ (c .before .before .if5 .left), ne-eqb _ _ (c .before .if6 .left)) (c .other .ensures)
+returns-7 c = rw (ne-eqb _ _ (c .before .before .before .before .before .before .before .before .if1 .left), ne-eqb _ _ (c .before .before .before .before .before .before .before .if2 .left), ne-eqb _ _ (c .before .before .before .before .before .before .if3 .left), ne-eqb _ _ (c .before .before .before .before .before .if4 .left), ne-eqb _ _ (c .before .before .before .before .if5 .left), ne-eqb _ _ (c .before .before .before .if6 .left), eq-eqb _ _ (c .before .before .if7 .taken), ← c .before .gives4 .ensures) (c .whole6 .ensures)
+
+other-requires : tie.Need-other-requires
+other-requires c κs = search needs
+
+returns-8 : tie.Need-returns-8
+unfolding headStep
+returns-8 c = rw (ne-eqb _ _ (c .before .before .before .before .before .before .before .if1 .left), ne-eqb _ _ (c .before .before .before .before .before .before .if2 .left), ne-eqb _ _ (c .before .before .before .before .before .if3 .left), ne-eqb _ _ (c .before .before .before .before .if4 .left), ne-eqb _ _ (c .before .before .before .if5 .left), ne-eqb _ _ (c .before .before .if6 .left), ne-eqb _ _ (c .before .if7 .left)) (c .other .ensures)
 
 pub head-step-spec : {M : Type 1} → statement M
 head-step-spec =
@@ -90,5 +100,8 @@ head-step-spec =
     gives-requires-3
     whole-requires-5
     returns-6
+    gives-requires-4
+    whole-requires-6
+    returns-7
     other-requires
-    returns-7)
+    returns-8)

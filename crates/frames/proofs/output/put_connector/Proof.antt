@@ -28,11 +28,14 @@ put-byte-requires-3 c κs = search needs
 put-sending-requires : tie.Need-put-sending-requires
 put-sending-requires c κs = search needs
 
+put-byte-requires-4 : tie.Need-put-byte-requires-4
+put-byte-requires-4 c κs = search needs
+
 same-length : tie.Need-same-length
 same-length c = search needs
 
 returns : tie.Need-returns
-returns c = rw (← c .before .before .before .before .before .before .before .mode-number .ensures) (then (then (then (then (c .before .before .before .before .before .before .before .before .before .before .before .before .before .before .before .before .before .before .before .put-head .ensures) (c .before .before .before .before .before .before .before .before .before .before .before .before .before .before .before .put-byte .ensures)) (c .before .before .before .before .before .before .before .before .before .before .before .put-byte2 .ensures)) (c .before .before .before .before .before .before .put-byte3 .ensures)) (c .before .before .put-sending .ensures))
+returns c = rw (← c .before .before .before .before .before .before .before .before .before .before .before .mode-number .ensures) (then (then (then (then (then (c .before .before .before .before .before .before .before .before .before .before .before .before .before .before .before .before .before .before .before .before .before .before .before .put-head .ensures) (c .before .before .before .before .before .before .before .before .before .before .before .before .before .before .before .before .before .before .before .put-byte .ensures)) (c .before .before .before .before .before .before .before .before .before .before .before .before .before .before .before .put-byte2 .ensures)) (c .before .before .before .before .before .before .before .before .before .before .put-byte3 .ensures)) (c .before .before .before .before .before .before .put-sending .ensures)) (c .before .before .put-byte4 .ensures))
 
 pub put-connector-spec : {M : Type 1} → statement M
 put-connector-spec =
@@ -46,5 +49,6 @@ put-connector-spec =
     mode-number-requires
     put-byte-requires-3
     put-sending-requires
+    put-byte-requires-4
     same-length
     returns)

@@ -14,7 +14,7 @@ use Rattle.request.specs.declared.Place.{Place}
 use Rattle.request.specs.Place.{placeOf}
 use Rattle.lines.specs.Cut.{Line}
 use Rattle.logger.specs.declared.Heard.{Heard}
-use Rattle.logger.specs.declared.Heard.the-variants.{NotReply, State, Complete, Busy, Stop, Mode, Error, Version, Listed}
+use Rattle.logger.specs.declared.Heard.the-variants.{NotReply, State, Complete, Busy, Stop, Mode, Error, Version, Listed, Lamp}
 use Rattle.logger.specs.Heard.{isConnector, isRelay, writable}
 use Rattle.logger.specs.declared.tally.Tally.{Tally}
 use Rattle.logger.specs.Tally.{samePlace, tells, mostLines, tallied, averageOf, howMany, isReading}
@@ -54,6 +54,7 @@ counted place (r ∷ rs) may =
     go (Error n a) e c = record { readings = c .readings; ones = c .ones }
     go Version e c = record { readings = c .readings; ones = c .ones }
     go (Listed d) e c = record { readings = c .readings; ones = c .ones }
+    go (Lamp a level target) e c = record { readings = c .readings; ones = c .ones }
 
 -- the average of a tally that counted some numbers is theirs
 average-is : (t : Tally) (values : List ℕ) → t .readings ≡ length values → t .ones ≡ howMany (λ v. eqb v 1) values → averageOf t ≡ averageIn values

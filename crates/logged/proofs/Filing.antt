@@ -35,7 +35,7 @@ use Rattle.history.specs.Run.{run}
 use Rattle.history.proofs.Following.{from-fresh}
 use Rattle.logger.specs.declared.Device.the-variants.{Ethernet, Infrared, Relays, End}
 use Rattle.logger.specs.declared.Heard.{Heard}
-use Rattle.logger.specs.declared.Heard.the-variants.{NotReply, State, Complete, Busy, Stop, Mode, Error, Version, Listed}
+use Rattle.logger.specs.declared.Heard.the-variants.{NotReply, State, Complete, Busy, Stop, Mode, Error, Version, Listed, Lamp}
 use Rattle.logger.specs.Heard.{lineOf, writable, isConnector, isRelay}
 use Rattle.logger.specs.Tally.{samePlace}
 use Rattle.logger.proofs.Back.{one-heard, heard-line}
@@ -180,6 +180,7 @@ module _ (h : List Call) (connection : ℕ) where
     replied-filed (alone (Error n a) may) also e = quiet-filed (alone (Error n a) may) also (λ p. refl)
     replied-filed (alone Version may) also e = quiet-filed (alone Version may) also (λ p. refl)
     replied-filed (alone (Listed d) may) also e = quiet-filed (alone (Listed d) may) also (λ p. refl)
+    replied-filed (alone (Lamp a level target) may) also e = quiet-filed (alone (Lamp a level target) may) also (λ p. refl)
 
     -- completions
     record NoticesFiled (l : List Completion) : Type 0 where

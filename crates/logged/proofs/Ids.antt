@@ -42,12 +42,17 @@ each-port P a b c (suc (suc zero)) e = b
 each-port P a b c (suc (suc (suc zero))) e = c
 each-port P a b c (suc (suc (suc (suc n)))) e = absurd (omega (arith, between-most 1 connectors (suc (suc (suc (suc n)))) e))
 
--- what two calls write, by how each is judged
+-- what calls write, by how the first is judged
+pub next-call : (connection : ℕ) (log : List Deed) (a : Call) (l : List Call) (j : Judged) → judge log a ≡ j
+    → writtenTo connection (a ∷ l) (said log (a ∷ l)) ≡ writtenBy connection a (answerOf j) ++ writtenTo connection l (said (deedsOf j ++ log) l)
+next-call connection log a l j e = ap (λ (x : Judged). writtenBy connection a (answerOf x) ++ writtenTo connection l (said (deedsOf x ++ log) l)) e
+
+-- and what two calls write
 two-calls : (connection : ℕ) (a b : Call) (j k : Judged) → judge [] a ≡ j → judge (deedsOf j ++ []) b ≡ k
     → writtenTo connection (a ∷ b ∷ []) (said [] (a ∷ b ∷ [])) ≡ writtenBy connection a (answerOf j) ++ (writtenBy connection b (answerOf k) ++ [])
 two-calls connection a b j k e f =
-    ap (λ (x : Judged). writtenBy connection a (answerOf x) ++ (writtenBy connection b (answerOf (judge (deedsOf x ++ []) b)) ++ [])) e
-    ∙ ap (λ (x : Judged). writtenBy connection a (answerOf j) ++ (writtenBy connection b (answerOf x) ++ [])) f
+    next-call connection [] a (b ∷ []) j e
+    ∙ ap (λ (l : List (List ℕ)). writtenBy connection a (answerOf j) ++ l) (next-call connection (deedsOf j ++ []) b [] k f)
 
 -- ---- the line, with one pair
 
@@ -63,13 +68,13 @@ pairs = pair 4 4 ∷ []
 abbrev logged : ℕ → ℕ → List Deed
 logged p id = event (started p 0 (sent id) pairs) ∷ []
 
-one : Spells (bytes "1") 1
+pub one : Spells (bytes "1") 1
 one = record { some = omega arith; few = omega arith; decimal = refl; value = refl }
 
 frequency : Spells (bytes "40000") 40000
 frequency = record { some = omega arith; few = omega arith; decimal = refl; value = refl }
 
-heard : (connection : ℕ) → connection ≤ 1 → Heard connection 128
+pub heard : (connection : ℕ) → connection ≤ 1 → Heard connection 128
 heard connection h = record { known = omega arith; enough = omega arith }
 
 module _ (p : ℕ) (port : between 1 connectors p ≡ true) where

@@ -4,5 +4,6 @@ pub mod Filing
 pub mod Unread
 pub mod Averages
 pub mod Ids
+pub mod Levels
 pub mod Occasions
 pub mod Exact

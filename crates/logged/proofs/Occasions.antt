@@ -5,8 +5,8 @@ use mathlib.Core.Path.{_≡_, refl, sym, ap, _∙_, subst}
 use mathlib.Core.Bool.{Bool, true, false, cond, not, _&&_, _||_}
 use mathlib.Core.List.{List, [], _∷_, _++_, flatten}
 use native.Mathlib.Omega.{arith}
-use borrow.Author.Tests.{eqb-true, leb-true}
-use lib.Dec.{eqb, leb}
+use borrow.Author.Tests.{eqb-true, eqb-false, leb-true, ltb-false}
+use lib.Dec.{eqb, ltb, leb}
 use Rattle.laws.specs.Bytes.{bytes}
 use Rattle.laws.specs.Checks.{_⇒_, first, between, oneOf}
 use Rattle.laws.specs.Lists.{all, same, times}
@@ -18,7 +18,7 @@ use Rattle.words.specs.Pairs.{samePair}
 use Rattle.words.specs.Places.{connectors, ports}
 use Rattle.request.specs.declared.Place.{Place}
 use Rattle.request.specs.declared.mode.Mode as mode
-use Rattle.request.specs.declared.mode.Mode.the-variants.{Ir, Sensor, IrBlaster}
+use Rattle.request.specs.declared.mode.Mode.the-variants.{Ir, Sensor, IrBlaster, LedLighting}
 use Rattle.request.specs.Place.{placeOf, nowhere}
 use Rattle.request.specs.Mode.{modeWord, mayHave}
 use Rattle.meaning.specs.Line.{isNumber, within, isAddress, isCount, codeIn}
@@ -30,10 +30,11 @@ use Rattle.lines.specs.Cut.{divided}
 use Rattle.logger.specs.declared.Device.{Device}
 use Rattle.logger.specs.declared.Device.the-variants.{Ethernet, Infrared, Relays, End}
 use Rattle.logger.specs.declared.Heard.{Heard}
-use Rattle.logger.specs.declared.Heard.the-variants.{NotReply, State, Complete, Busy, Stop, Mode, Error, Version, Listed}
-use Rattle.logger.specs.Heard.{deviceLine, lineOf, isNowhere, isConnector, isRelay, writable}
+use Rattle.logger.specs.declared.Heard.the-variants.{NotReply, State, Complete, Busy, Stop, Mode, Error, Version, Listed, Lamp}
+use Rattle.logger.specs.Heard.{deviceLine, lineOf, isNowhere, isConnector, isRelay, isLevel, writable}
 use Rattle.logged.specs.Written.{writtenTo, Writes}
 use Rattle.logged.proofs.Texts.{alone-written}
+use Rattle.logged.proofs.Levels.{lamp-written, dark-written}
 use Rattle.logged.proofs.Ids.{each-port, busy-written, complete-written}
 
 -- ---- occasions of all replies but those with an id and the devices
@@ -84,6 +85,7 @@ occasion (Mode a m) = line 1 128 (bytes "set_IR,1:" ++ decimal (a .port) ++ byte
 occasion (Error n a) = cond (eqb (a .m) 2) (asks "setstate,2:" (a .port) "" ∷ []) (errorCalls n (a .port))
 occasion Version = line 1 128 (bytes "getversion") ∷ []
 occasion (Listed d) = []
+occasion (Lamp a level target) = []
 
 -- the only one is this
 abbrev isOnly : List ℕ → List (List ℕ) → Bool
@@ -123,7 +125,7 @@ tables =
       relayErrors = refl;
       contacts = refl;
       relays = refl;
-      modes = λ m. elim m [ Ir ↦ refl | Sensor ↦ refl | IrBlaster ↦ refl ];
+      modes = λ m. elim m [ Ir ↦ refl | Sensor ↦ refl | IrBlaster ↦ refl | LedLighting ↦ refl ];
       stops = refl;
       version = refl;
     }
@@ -200,6 +202,30 @@ id-written f a id e written =
     let w = written (a .port) (and-right (eqb (a .m) 1) _ there) (leb-true id 65535 (and-left (leb id 65535) (isConnector a) e)) in
     subst (λ (m : ℕ). Writes (said []) (lineOf (f (placeOf m (a .port))))) (sym (eqb-true (a .m) 1 (and-left (eqb (a .m) 1) _ there))) w
 
+-- a lamp's level and target
+lamp-there : (a : Place) (level target : ℕ) → isConnector a && isLevel level target ≡ true → Writes (said []) (lineOf (Lamp a level target))
+lamp-there a level target e =
+    let there = and-left (isConnector a) (isLevel level target) e in
+    let port = and-right (eqb (a .m) 1) _ there in
+    subst (λ (m : ℕ). Writes (said []) (lineOf (Lamp (placeOf m (a .port)) level target))) (sym (eqb-true (a .m) 1 (and-left (eqb (a .m) 1) _ there)))
+    (by-level (and-right (isConnector a) (isLevel level target) e) port)
+  where
+    at-least-1 : (n : ℕ) → (n ≡ 0 → ⊥) → 1 ≤ n
+    at-least-1 zero e = absurd (e refl)
+    at-least-1 (suc n) e = omega arith
+
+    by-level : isLevel level target ≡ true → between 1 connectors (a .port) ≡ true → Writes (said []) (lineOf (Lamp (placeOf 1 (a .port)) level target))
+    by-level is port =
+        by-test (eqb target 0)
+        (λ t.
+        let none : level ≡ 0 = eqb-true level 0 (rw t at is) in
+        rw (eqb-true target 0 t, none) (dark-written (a .port) port))
+        λ t.
+        by-test (ltb 100 target)
+        (λ u. not-both (rw (t, u) at is) refl)
+        (λ u.
+        lamp-written (a .port) port level (leb-true level 100 (rw (t, u) at is)) target (at-least-1 target (eqb-false target 0 t)) (ltb-false 100 target u))
+
 pub writable-written : (r : Heard) → writable r ≡ true → Writes (said []) (lineOf r)
 unfolding writable
 writable-written NotReply e = not-both e refl
@@ -212,3 +238,4 @@ writable-written (Mode a m) e =
 writable-written (Error n a) e = shown-written (Error n a) e (error-shown n a e)
 writable-written Version e = shown-written Version e (tables .version)
 writable-written (Listed d) e = device-written d
+writable-written (Lamp a level target) e = lamp-there a level target e

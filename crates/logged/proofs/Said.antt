@@ -1,42 +1,47 @@
 -- Every text that a call's answer writes consists of lines of replies that a hub can write.
 use Prim.Native.Nat.{ℕ, _≤_}
 use Prim.Native.String.{String}
-use mathlib.Core.Path.{_≡_, refl, sym}
+use mathlib.Core.Path.{_≡_, refl, sym, ap}
 use mathlib.Core.Bool.{Bool, true, false, cond, not, _&&_, _||_}
 use mathlib.Core.List.{List, [], _∷_, _++_, append-assoc}
 use mathlib.Core.Option.{Option, some, Option·getD}
 use mathlib.Core.Option as option
 use native.Mathlib.Omega.{arith}
-use borrow.Author.Tests.{le-leb, not-true, not-false}
+use borrow.Author.Tests.{le-leb, le-ltb, eq-eqb, eqb-true, not-true, not-false}
 use lib.Dec.{eqb, ltb}
 use Rattle.laws.specs.Bytes.{bytes}
 use Rattle.laws.specs.Checks.{between, isSome}
 use Rattle.laws.specs.Lists.{all, part, behind, gathered}
-use Rattle.laws.proofs.Choice.{cond-case, and-left, and-right}
+use Rattle.laws.proofs.Choice.{by-test, cond-case, and-left, and-right}
 use Rattle.laws.proofs.Checks.{Through, through, past, some-of, one-of-all}
 use Rattle.words.specs.Decimal.{decimal, threeDigits}
 use Rattle.words.specs.Places.{connectors, relays, portsOf, ports}
 use Rattle.request.specs.declared.Place.{Place}
 use Rattle.request.specs.declared.mode.Mode as mode
-use Rattle.request.specs.declared.mode.Mode.the-variants.{Ir, Sensor, IrBlaster}
+use Rattle.request.specs.declared.mode.Mode.the-variants.{Ir, Sensor, IrBlaster, LedLighting}
 use Rattle.request.specs.Place.{placeOf}
 use Rattle.request.specs.Mode.{modeWord, mayHave}
 use Rattle.meaning.specs.Line as text
 use Rattle.meaning.specs.Line.{is, number, within, addressed, codeIn}
 use Rattle.meaning.specs.Time.{Transmission, complete}
-use Rattle.meaning.specs.Log.{Deed, now, contactOf, relayOf, ownerOf, onAir}
+use Rattle.meaning.specs.Lamp.{Lamp, dark, level, turned}
+use Rattle.meaning.specs.Log.{Deed, now, contactOf, lampOf, relayOf, ownerOf, onAir}
 use Rattle.meaning.specs.Table as table
 use Rattle.meaning.specs.Table.{Completion, Answer, refused, taken, replied, Judged, refusal, error, does, answerOf, Row, Call, line, overlong, reading, closing, waiting, rowOf, judge, logOf, dueOf, due, inserted, ordered, completions}
-use Rattle.theorems.specs.Deeds.{ModeWord, ir, sensor, blaster, Did, nothing, changes, reads, switches, starts, renews, halts, leaves, passes}
+use Rattle.theorems.specs.Deeds.{ModeWord, ir, sensor, blaster, lighting, Did, nothing, changes, reads, lights, switches, starts, renews, halts, leaves, passes}
 use Rattle.theorems.specs.Occasion as occasion
+use Rattle.theorems.specs.Lamps.{LampWithin}
 use Rattle.theorems.proofs.Deeds.{within-is, mode-of, did}
 use Rattle.theorems.proofs.Words.{mode-word}
 use Rattle.theorems.proofs.Contacts.{reading-is-from-a-call}
 use Rattle.theorems.proofs.Times.{BegunBy, last-begun, on-air-is}
+use Rattle.theorems.proofs.Ramps.{level-most}
+use Rattle.theorems.proofs.Lamps.{turned-within, lamp-within, dark-level}
 use Rattle.theorems.proofs.Occasions.{code-faults, within-between, listed}
 use Rattle.logger.specs.declared.Heard.{Heard}
 use Rattle.logger.specs.declared.Heard.the-variants.{State, Complete, Busy, Stop, Mode, Error, Version}
-use Rattle.logger.specs.Heard.{at, lineOf, isConnector, isRelay, writable}
+use Rattle.logger.specs.declared.Heard.the-variants as heard
+use Rattle.logger.specs.Heard.{at, lineOf, isConnector, isRelay, isLevel, writable}
 
 -- ---- what is shown
 
@@ -74,6 +79,13 @@ error-speaks {n = n} {m = m} {p = p} l f = spoken (Error n (placeOf m p)) (may l
         rw port (cond-case (λ (b : Bool). b ≡ true) (eqb n 14) _ _ (λ t. let k : eqb p 3 ≡ false = rw t at f in rw k) (λ _. e))
     may (occasion.relay _ port) f = rw port
 
+-- a lamp's level and target are such as a hub shows: a target of 0 stands with a level of 0 alone
+level-shown : (x : Lamp) (t : ℕ) → LampWithin x t → isLevel (level x t) (x .target) ≡ true
+level-shown x t w =
+    by-test (eqb (x .target) 0)
+    (λ e. rw (e, w .unlit (eqb-true (x .target) 0 e)) (eq-eqb (level dark t) 0 (dark-level t)))
+    (λ e. rw (e, le-ltb 100 (x .target) (w .target-most)) (le-leb (level x t) 100 (level-most w t)))
+
 module _ (p : ℕ) (port : between 1 connectors p ≡ true) where
   mode-spoken : (m : mode.Mode) → mayHave p m ≡ true → Speaks (text.line "IR," 1 p (modeWord m))
   unfolding lineOf writable
@@ -83,6 +95,13 @@ module _ (p : ℕ) (port : between 1 connectors p ≡ true) where
   mode-speaks (ir w) = rw w (mode-spoken Ir refl)
   mode-speaks (sensor w) = rw w (mode-spoken Sensor refl)
   mode-speaks (blaster w e) = rw w (mode-spoken IrBlaster (rw e))
+  mode-speaks (lighting w) = rw w (mode-spoken LedLighting refl)
+
+  lamp-speaks : (x : Lamp) (t : ℕ) → LampWithin x t → Speaks (text.line "LED_LIGHTING," 1 p (decimal (level x t) ++ bytes "," ++ decimal (x .target)))
+  unfolding lineOf writable
+  lamp-speaks x t w =
+      spoken (heard.Lamp (placeOf 1 p) (level x t) (x .target)) (rw port (level-shown x t w))
+      (with-last "LED_LIGHTING," (placeOf 1 p) (decimal (level x t) ++ bytes "," ++ decimal (x .target)))
 
   state-speaks : (m v : ℕ) → (isRelay (placeOf m p) || isConnector (placeOf m p)) ≡ true → v ≤ 1 → Speaks (text.line "state," m p (decimal v))
   unfolding lineOf writable
@@ -106,6 +125,7 @@ did-relay : (p : ℕ) (log : List Deed) (call : Call) (ds : List Deed) → Did l
 did-relay p log call ds nothing m = m
 did-relay p log call ds (changes r c word _ _ _ _ _) m = m
 did-relay p log call ds (reads r v _ _ _ _) m = m
+did-relay p log call ds (lights r c target ramp _ _ _ _ _ _) m = m
 did-relay p log call ds (switches r c v _ _ small) m = cond-case (λ (n : ℕ). n ≤ 1) (eqb r p) v (relayOf p log) (λ _. small) (λ _. m)
 did-relay p log call ds (starts r c f ps _ _ _ _ _) m = m
 did-relay p log call ds (renews r c s _ _ _ _ _) m = m
@@ -252,6 +272,27 @@ module _ (h : List Call) (connection : ℕ) (s : List ℕ) where
         each = past refl (λ _. past refl (λ _. past refl (λ e. past refl (λ _. past refl (λ _. stop-speaks p (port e))))));
       }
 
+  set-LED-LIGHTING-fits : Fitting (table.set-LED-LIGHTING log connection s)
+  unfolding table.set-LED-LIGHTING
+  set-LED-LIGHTING-fits =
+      let target = field 2 in
+      let ramp = field 3 in
+      record {
+        each = past refl (λ _. past refl (λ _. past refl (λ e. past refl (λ bad. past refl (λ _.
+            let both = and-left (within 1 100 target && within 0 10 ramp) _ (not-false _ bad) in
+            let t = within-is 1 100 target (ap not (and-left (within 1 100 target) (within 0 10 ramp) both)) in
+            let r = within-is 0 10 ramp (ap not (and-right (within 1 100 target) (within 0 10 ramp) both)) in
+            lamp-speaks p (port e) _ (now log) (turned-within (number target) (number ramp) (lamp-within h p) (t .0) (t .1) (r .1)))))));
+      }
+
+  get-LED-LIGHTING-fits : Fitting (table.get-LED-LIGHTING log connection s)
+  unfolding table.get-LED-LIGHTING
+  get-LED-LIGHTING-fits =
+      record {
+        each = past refl (λ _. past refl (λ _. past refl (λ e. past refl (λ _. past refl (λ _.
+            lamp-speaks p (port e) (lampOf p log) (now log) (lamp-within h p))))));
+      }
+
   request-fits : Fitting (table.request log connection s)
   unfolding table.request
   request-fits =
@@ -262,7 +303,9 @@ module _ (h : List Call) (connection : ℕ) (s : List ℕ) where
       (named "setstate" setstate-fits
       (named "getstate" getstate-fits
       (named "sendir" sendir-fits
-      (named "stopir" stopir-fits (record { each = refl }))))))))
+      (named "stopir" stopir-fits
+      (named "set_LED_LIGHTING" set-LED-LIGHTING-fits
+      (named "get_LED_LIGHTING" get-LED-LIGHTING-fits (record { each = refl }))))))))))
     where
       named : (word : String) {r other : Row} → Fitting r → Fitting other → Fitting (cond (is word (field 0)) r other)
       named word {r} {other} here rest = cond-case Fitting (is word (field 0)) r other (λ _. here) (λ _. rest)

@@ -14,7 +14,7 @@ use Rattle.request.specs.declared.Place.{Place}
 use Rattle.request.specs.Place.{placeOf}
 use Rattle.lines.specs.Cut.{Line, whole, streamOf}
 use Rattle.logger.specs.declared.Heard.{Heard}
-use Rattle.logger.specs.declared.Heard.the-variants.{NotReply, State, Complete, Busy, Stop, Mode, Error, Version, Listed}
+use Rattle.logger.specs.declared.Heard.the-variants.{NotReply, State, Complete, Busy, Stop, Mode, Error, Version, Listed, Lamp}
 use Rattle.logger.specs.Heard.{lineOf, writable, Hears}
 use Rattle.logger.specs.Tally.{samePlace}
 
@@ -40,6 +40,7 @@ stateIn place (Mode a mode) = []
 stateIn place (Error number a) = []
 stateIn place Version = []
 stateIn place (Listed d) = []
+stateIn place (Lamp a level target) = []
 
 abbrev pub statesOf : Place → List Heard → List ℕ
 statesOf place [] = []

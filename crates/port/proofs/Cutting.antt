@@ -52,6 +52,7 @@ event-many s store (event.Closed connection) =
 event-many s store (event.Reading port value) = refl
 event-many s store (event.Wait connection n) = refl
 event-many s store event.Carriers = refl
+event-many s store event.Levels = refl
 event-many s store event.Due = refl
 event-many s store (event.Refused connection number) = refl
 

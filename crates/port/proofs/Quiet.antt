@@ -1,7 +1,7 @@
 -- A closing, a reading and a wait have no reply: they are refused or taken. And what their calls return, with the frames of it, is what they make.
 use Prim.Native.Nat.{ℕ, _-_, _≤_}
 use mathlib.Core.Path.{_≡_, refl, sym, ap, subst}
-use mathlib.Core.Bool.{Bool, not}
+use mathlib.Core.Bool.{not}
 use mathlib.Core.List.{List, [], _++_}
 use native.Mathlib.Omega.{arith}
 use lib.Dec.{ltb}
@@ -25,7 +25,7 @@ use Rattle.server.specs.declared.Server.{Server}
 use Rattle.server.specs.declared.Served.{Served}
 use Rattle.server.specs.declared.WaitServed.{WaitServed}
 use Rattle.server.specs.Calls.{closedCall, readingCall, waitCall}
-use Rattle.frames.specs.Output.{answerFrames, waitFrames, carriersFrame}
+use Rattle.frames.specs.Output.{answerFrames, waitFrames}
 use Rattle.port.specs.Event.{closedOf, readingOf, waitOf, Does}
 
 abbrev Quiet : Answer → Type 0
@@ -101,5 +101,6 @@ module _ {before out : List ℕ} {at end : ℕ} where
         put = subst (λ (y : WaitServed). Put before at (answerFrames connection (y .answer) ++ waitFrames (y .completions)) out end) e p;
       }
 
-  pub carriers-put : (on : List Bool) {l : List Bool} → l ≡ on → Put before at (carriersFrame l) out end → Put before at (carriersFrame on) out end
-  carriers-put on e p = subst (λ (k : List Bool). Put before at (carriersFrame k) out end) e p
+  -- the frame of what a question returned
+  pub told : {A : Type 0} (frame : A → List ℕ) (y : A) {x : A} → x ≡ y → Put before at (frame x) out end → Put before at (frame y) out end
+  told frame y e p = subst (λ k. Put before at (frame k) out end) e p

@@ -16,7 +16,7 @@ use Rattle.frames.specs.declared.Event.{Event}
 use Rattle.frames.specs.declared.Event.the-variants as event
 use Rattle.frames.specs.declared.Frame.{Frame}
 use Rattle.frames.specs.declared.Frame.the-variants as frame
-use Rattle.frames.specs.Layout.{letter, twoBytes, fourBytes, numberOf, Input, piece, closed, reading, wait, carriers, due}
+use Rattle.frames.specs.Layout.{letter, twoBytes, fourBytes, numberOf, Input, piece, closed, reading, wait, carriers, levels, due}
 use Rattle.frames.specs.Layout.{encoded, Sayable, encodedAll, SayableAll}
 use Rattle.frames.specs.Read.{more, pieceOf, headStep, nextStep, goesOn, readOf}
 use Rattle.frames.specs.Read as read
@@ -136,6 +136,7 @@ input-written (wait any n) s store buffers k h each =
     head-written s store buffers (letter "w") (any ∷ 0 ∷ 4 ∷ fourBytes n) frame.Between (event.Wait any (micros n)) h each
     (ap (λ m. record { frame = frame.Between; event = event.Wait any (micros m); used = 8 }) (four-read n k))
 input-written (carriers any) s store buffers k h each = head-written s store buffers (letter "c") (any ∷ 0 ∷ 0 ∷ []) frame.Between event.Carriers h each refl
+input-written (levels any) s store buffers k h each = head-written s store buffers (letter "l") (any ∷ 0 ∷ 0 ∷ []) frame.Between event.Levels h each refl
 input-written (due any) s store buffers k h each = head-written s store buffers (letter "d") (any ∷ 0 ∷ 0 ∷ []) frame.Between event.Due h each refl
 
 -- what an input leaves is between two frames again
@@ -153,6 +154,7 @@ input-left (closed connection) w b = refl
 input-left (reading port value) w b = refl
 input-left (wait any n) w b = refl
 input-left (carriers any) w b = refl
+input-left (levels any) w b = refl
 input-left (due any) w b = refl
 
 -- ---- inputs one after the other

@@ -29,6 +29,7 @@ event-sound s store (event.Closed connection) k = closed-sound s connection k
 event-sound s store (event.Reading port value) k = reading-sound s port value k
 event-sound s store (event.Wait connection n) k = wait-sound s (n .0) k
 event-sound s store event.Carriers k = k
+event-sound s store event.Levels k = k
 event-sound s store event.Due k = k
 event-sound s store (event.Refused connection number) k = k
 

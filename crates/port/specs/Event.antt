@@ -4,14 +4,14 @@ use Prim.Native.Nat.{ℕ}
 use mathlib.Core.Path.{_≡_}
 use mathlib.Core.List.{List, [], _++_}
 use Rattle.laws.specs.Put.{Put}
-use Rattle.hub.specs.Calls.{carriersOf}
+use Rattle.hub.specs.Calls.{carriersOf, levelsOf}
 use Rattle.server.specs.declared.Server.{Server}
 use Rattle.server.specs.declared.Due.{Due}
 use Rattle.server.specs.declared.Due.the-variants as due
 use Rattle.server.specs.Calls.{closedCall, readingCall, waitCall, dueOf}
 use Rattle.frames.specs.declared.Event.{Event}
 use Rattle.frames.specs.declared.Event.the-variants as event
-use Rattle.frames.specs.Output.{refusalFrame, answerFrames, waitFrames, carriersFrame, notDueFrame, dueFrame}
+use Rattle.frames.specs.Output.{refusalFrame, answerFrames, waitFrames, carriersFrame, levelsFrame, notDueFrame, dueFrame}
 use Rattle.port.specs.declared.event.Done.{Done}
 
 pub record Outcome : Type 0 where
@@ -46,6 +46,7 @@ eventOf s store (event.Closed connection) = closedOf s connection
 eventOf s store (event.Reading port value) = readingOf s port value
 eventOf s store (event.Wait connection n) = waitOf s connection (n .0)
 eventOf s store event.Carriers = outcome s (carriersFrame (carriersOf (s .hub) store))
+eventOf s store event.Levels = outcome s (levelsFrame (levelsOf (s .hub)))
 eventOf s store event.Due = outcome s (dueFrames (dueOf s))
 eventOf s store (event.Refused connection number) = outcome s (refusalFrame connection number)
 

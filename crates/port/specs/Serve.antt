@@ -8,7 +8,7 @@ use Rattle.server.specs.Piece.{pieceStep}
 use Rattle.frames.specs.declared.Event.{Event}
 use Rattle.frames.specs.declared.Event.the-variants as event
 use Rattle.frames.specs.declared.Frame.the-variants.{Between}
-use Rattle.frames.specs.Layout.{Input, piece, closed, reading, wait, carriers, due}
+use Rattle.frames.specs.Layout.{Input, piece, closed, reading, wait, carriers, levels, due}
 use Rattle.frames.specs.Output.{answerFrames, changeFrames}
 use Rattle.port.specs.Event.{eventOf}
 use Rattle.port.specs.Turn.{stateOf, Whole, whole}
@@ -40,6 +40,7 @@ inputWritten (closed connection) w = eventWritten (event.Closed connection) w
 inputWritten (reading port value) w = eventWritten (event.Reading port value) w
 inputWritten (wait any n) w = eventWritten (event.Wait any (micros n)) w
 inputWritten (carriers any) w = eventWritten event.Carriers w
+inputWritten (levels any) w = eventWritten event.Levels w
 inputWritten (due any) w = eventWritten event.Due w
 
 -- inputs, one after the other

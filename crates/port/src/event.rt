@@ -4,6 +4,7 @@ use frames::output::put_answer;
 use frames::output::put_carriers;
 use frames::output::put_completions;
 use frames::output::put_due;
+use frames::output::put_levels;
 use frames::output::put_not_due;
 use frames::output::put_refusal;
 use hub::Store;
@@ -87,6 +88,10 @@ pub fn answered(server: Server, store: &Store, event: Event, out: &mut [u8], at:
         Event::Carriers => Done {
             server,
             end: put_carriers(out, at, server.carriers(store)),
+        },
+        Event::Levels => Done {
+            server,
+            end: put_levels(out, at, server.levels()),
         },
         Event::Due => Done {
             server,

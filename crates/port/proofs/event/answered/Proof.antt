@@ -1,9 +1,10 @@
 -- `port::event::answered` meets its contract.
-use Rattle.port.proofs.Quiet.{carriers-put}
 use mathlib.Core.Path.{refl}
 use native.Mathlib.Omega.{arith}
 use Rattle.laws.proofs.Put.{nothing}
+use Rattle.frames.specs.Output.{carriersFrame, levelsFrame}
 use Rattle.port.specs.Event.{eventOf}
+use Rattle.port.proofs.Quiet.{told}
 use borrow.Author.Needs.{needs}
 use Rattle.port.proofs.event.answered.Statement.{statement}
 use Rattle.port.proofs.event.answered.Tie as tie
@@ -40,6 +41,15 @@ put-carriers-requires c κs = search needs
 
 enum-told-3 : tie.Need-enum-told-3
 enum-told-3 c = search needs
+
+levels-requires : tie.Need-levels-requires
+levels-requires c κs = search needs
+
+put-levels-requires : tie.Need-put-levels-requires
+put-levels-requires c κs = search needs
+
+enum-told-4 : tie.Need-enum-told-4
+enum-told-4 c = search needs
 
 put-next-requires : tie.Need-put-next-requires
 put-next-requires c κs = search needs
@@ -80,21 +90,28 @@ same-length-4 c = search needs
 
 returns-5 : tie.Need-returns-5
 unfolding eventOf
-returns-5 c = rw (c .before .before .before .before .before .enum-told2 .given .1) (record { server = refl; put = carriers-put _ (c .before .before .before .carriers .ensures) (c .before .before .put-carriers .ensures) })
+returns-5 c = rw (c .before .before .before .before .before .enum-told2 .given .1) (record { server = refl; put = told carriersFrame _ (c .before .before .before .carriers .ensures) (c .before .before .put-carriers .ensures) })
 
 same-length-5 : tie.Need-same-length-5
 same-length-5 c = search needs
 
 returns-6 : tie.Need-returns-6
 unfolding eventOf
-returns-6 c = rw (c .before .before .before .before .enum-told3 .given .1) (record { server = refl; put = c .before .before .put-next .ensures })
+returns-6 c = rw (c .before .before .before .before .before .enum-told3 .given .1) (record { server = refl; put = told levelsFrame _ (c .before .before .before .levels .ensures) (c .before .before .put-levels .ensures) })
 
 same-length-6 : tie.Need-same-length-6
 same-length-6 c = search needs
 
 returns-7 : tie.Need-returns-7
 unfolding eventOf
-returns-7 c = rw (c .before .before .before .before .before .event4 .given .1) (record { server = refl; put = c .before .before .put-refusal .ensures })
+returns-7 c = rw (c .before .before .before .before .enum-told4 .given .1) (record { server = refl; put = c .before .before .put-next .ensures })
+
+same-length-7 : tie.Need-same-length-7
+same-length-7 c = search needs
+
+returns-8 : tie.Need-returns-8
+unfolding eventOf
+returns-8 c = rw (c .before .before .before .before .before .event4 .given .1) (record { server = refl; put = c .before .before .put-refusal .ensures })
 
 pub answered-spec : {M : Type 1} → statement M
 answered-spec =
@@ -111,6 +128,9 @@ answered-spec =
     carriers-requires
     put-carriers-requires
     enum-told-3
+    levels-requires
+    put-levels-requires
+    enum-told-4
     put-next-requires
     enum-known-event-4
     put-refusal-requires
@@ -126,4 +146,6 @@ answered-spec =
     same-length-5
     returns-6
     same-length-6
-    returns-7)
+    returns-7
+    same-length-7
+    returns-8)

@@ -14,7 +14,8 @@ use Rattle.laws.specs.Put.{over}
 use Rattle.laws.proofs.Choice.{by-test, cond-case}
 use Rattle.laws.proofs.Parts.{part-here, part-elsewhere, part-back}
 use Rattle.laws.proofs.Put.{over-length}
-use Rattle.meaning.specs.Table.{Completion, Answer, refused, taken, replied, Call, logOf, carriers, Said, said}
+use Rattle.meaning.specs.Log.{Deed}
+use Rattle.meaning.specs.Table.{Completion, Answer, refused, taken, replied, Call, logOf, carriers, levels, Said, said}
 use Rattle.meaning.specs.Table as call
 use Rattle.lines.specs.declared.Assembler.{Assembler}
 use Rattle.lines.specs.declared.Found.{Found}
@@ -28,13 +29,14 @@ use Rattle.lines.proofs.Keeps.{take-case}
 use Rattle.hub.specs.declared.Hub.{Hub}
 use Rattle.hub.specs.Record.{freshHub, applied}
 use Rattle.hub.specs.Line.{lineStep}
-use Rattle.hub.specs.Calls.{carriersOf}
+use Rattle.hub.specs.Calls.{carriersOf, levelsOf}
 use Rattle.hub.specs.Calls as hub
 use Rattle.history.specs.Heard.{answerOut}
 use Rattle.history.specs.Run.{called, run}
 use Rattle.history.specs.Waiting.{Reached, reached}
-use Rattle.history.proofs.Following.{hubAt, Keeps, follows, carriers-follow, from-fresh}
+use Rattle.history.proofs.Following.{hubAt, Keeps, follows, carriers-follow, levels-follow, from-fresh}
 use Rattle.reads.proofs.Cursor.{modeIn}
+use Rattle.lamp.proofs.Meaning.{shownAt}
 use Rattle.logged.specs.Written.{asker, forOne, noticesTo, writtenBy, writtenTo}
 use Rattle.logged.specs.Filed.{Filed}
 use Rattle.logged.proofs.Filing.{from-contact-to-file}
@@ -170,15 +172,18 @@ texts-written c (asked ∷ calls) (x ∷ l) =
     texts-append c (answerTold (asker asked) (x .answer)) (told calls l)
     ∙ ap₂ (λ (a b : List (List ℕ)). a ++ b) (answer-texts c asked (x .answer)) (texts-written c calls l)
 
--- ---- the carriers after calls
-reached-carriers : (h l : List Call) (store : List ℕ) → Keeps store (logOf h)
-    → carriersOf (reached (hubAt (logOf h)) store l .hub) (reached (hubAt (logOf h)) store l .store) ≡ carriers (logAfter (logOf h) l)
-reached-carriers h [] store st = carriers-follow h store st
-reached-carriers h (call ∷ l) store st =
+-- ---- the carriers and levels after calls
+record Shows (r : Reached) (log : List Deed) : Type 0 where
+  on : carriersOf (r .hub) (r .store) ≡ carriers log
+  lit : levelsOf (r .hub) ≡ levels log
+
+reached-shows : (h l : List Call) (store : List ℕ) → Keeps store (logOf h)
+    → Shows (reached (hubAt (logOf h)) store l) (logAfter (logOf h) l)
+reached-shows h [] store st = record { on = carriers-follow h store st; lit = levels-follow h store st }
+reached-shows h (call ∷ l) store st =
     let f = follows h store st call in
     let c = called (hubAt (logOf h)) store call in
-    ap (λ (x : Hub). carriersOf (reached x (c .store) l .hub) (reached x (c .store) l .store)) (f .hub)
-    ∙ reached-carriers (call ∷ h) l (c .store) (f .stored)
+    subst (λ (x : Hub). Shows (reached x (c .store) l) (logAfter (logOf (call ∷ h)) l)) (sym (f .hub)) (reached-shows (call ∷ h) l (c .store) (f .stored))
 
 -- ---- the hub on what the assembler has found
 
@@ -361,13 +366,17 @@ module _ (room : ℕ) (enough : 128 ≤ room) where
         → textsFor connection (served room events (freshState store buffers) .told) ≡ writtenTo connection history (said [] history)
     each-connection connection = ap (textsFor connection) events-from-fresh ∙ texts-written connection history (said [] history)
 
-    -- each connector's carrier then
+    -- each connector's carrier and level then
+    shows : Shows (reached (freshState store buffers .server .hub) (freshState store buffers .store) history) (logAfter [] history)
+    unfolding modeIn shownAt
+    shows = reached-shows [] history store (record { size = sized; held = λ slot h. tt })
+
     pub events-carriers : carriersOf (served room events (freshState store buffers) .state .server .hub) (served room events (freshState store buffers) .state .store)
         ≡ carriers (logAfter [] history)
-    unfolding modeIn
-    events-carriers =
-        ap (λ (r : Reached). carriersOf (r .hub) (r .store)) (given .after)
-        ∙ reached-carriers [] history store (record { size = sized; held = λ slot h. tt })
+    events-carriers = ap (λ (r : Reached). carriersOf (r .hub) (r .store)) (given .after) ∙ shows .on
+
+    pub events-levels : levelsOf (served room events (freshState store buffers) .state .server .hub) ≡ levels (logAfter [] history)
+    events-levels = ap (λ (r : Reached). levelsOf (r .hub)) (given .after) ∙ shows .lit
 
     -- and from contact to file: what a logger at one connection hears of it
     pub filed-of-events : (connection : ℕ) (pieces : List (List ℕ)) (buffer : List ℕ) → length buffer ≡ 4096

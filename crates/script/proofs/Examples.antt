@@ -22,6 +22,7 @@ use Rattle.command.specs.Read.{codeAt, commandAt}
 use Rattle.pace.specs.Pace.{endOf, passed}
 use Rattle.reply.specs.Reply.{replyText}
 use Rattle.connector.specs.Change.{withMode, ownerLeft}
+use Rattle.connector.specs.Pass.{passingLamp}
 use Rattle.connector.specs.Reading.{readingStep}
 use Rattle.connector.specs.Send.{runOf}
 use Rattle.connector.specs.Step.{setMode, getContact, alsoTold, stops, commandStep, sendStep}
@@ -59,7 +60,7 @@ pub whole-output : printedBy freshHub (replicate 1560 0)
     ∷ bytes "w 1"
     ∷ [])
     ≡ bytes "0 IR,1:2,SENSOR\n0 ERR_1:2,028\n0 state,1:2,0\n2 busyIR,1:1,9\n@1 1 completeir,1:1,7\n"
-unfolding over numberOf numberAt endsField afterComma fieldWithin decimal legal samePair learnt isLetter countAt offAt afterOn spelledAt letterAt begunAt nextPair readCode candidate wordAt partAt portAt addressAt addressFault modeAt alone setIrAt getStateAt addressed readRequest capped fieldsAt codeAt commandAt firstMicro endOf passed replyText withMode readingStep runOf setMode getContact commandStep sendStep lineStep readingCall closedCall waitCall isNumber inputOf printedReply whoText printedRefusal printedAnswer printedCall printedCompletion lineOutcome readingMade closingMade waitingMade done
+unfolding over numberOf numberAt endsField afterComma fieldWithin decimal legal samePair learnt isLetter countAt offAt afterOn spelledAt letterAt begunAt nextPair readCode candidate wordAt partAt portAt addressAt addressFault modeAt alone setIrAt getStateAt addressed readRequest capped fieldsAt codeAt commandAt firstMicro endOf passed replyText withMode passingLamp readingStep runOf setMode getContact commandStep sendStep lineStep readingCall closedCall waitCall isNumber inputOf printedReply whoText printedRefusal printedAnswer printedCall printedCompletion lineOutcome readingMade closingMade waitingMade done
 whole-output = refl
 
 -- a device list, a reply for the owner too, a completion for connection 0 and one for nobody, a refusal, a line of another form
@@ -76,5 +77,5 @@ pub other-output : printedBy freshHub (replicate 1560 0)
     ∷ bytes "w"
     ∷ [])
     ≡ bytes "0 device,0,0 ETHERNET\n0 device,1,3 IR\n0 device,2,3 RELAY\n0 endlistdevices\n1 stopir,1:1\n0 stopir,1:1\n@24600 0 completeir,1:1,8\n@24600 - completeir,1:2,9\n!102\n!\n"
-unfolding over numberOf numberAt endsField afterComma fieldWithin decimal legal samePair learnt isLetter countAt offAt afterOn spelledAt letterAt begunAt nextPair readCode candidate wordAt partAt portAt addressAt addressFault modeAt alone setIrAt getStateAt addressed readRequest capped fieldsAt codeAt commandAt firstMicro endOf passed replyText withMode ownerLeft readingStep runOf setMode getContact alsoTold stops commandStep sendStep lineStep readingCall closedCall waitCall isNumber inputOf printedReply whoText printedRefusal printedAnswer printedCall printedCompletion lineOutcome readingMade closingMade waitingMade done
+unfolding over numberOf numberAt endsField afterComma fieldWithin decimal legal samePair learnt isLetter countAt offAt afterOn spelledAt letterAt begunAt nextPair readCode candidate wordAt partAt portAt addressAt addressFault modeAt alone setIrAt getStateAt addressed readRequest capped fieldsAt codeAt commandAt firstMicro endOf passed replyText withMode ownerLeft passingLamp readingStep runOf setMode getContact alsoTold stops commandStep sendStep lineStep readingCall closedCall waitCall isNumber inputOf printedReply whoText printedRefusal printedAnswer printedCall printedCompletion lineOutcome readingMade closingMade waitingMade done
 other-output = refl

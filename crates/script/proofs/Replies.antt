@@ -20,10 +20,10 @@ use Rattle.text.proofs.Reading.{digit-range}
 use Rattle.request.specs.declared.Place.{Place}
 use Rattle.request.specs.declared.Fixed.the-variants.{Devices, Version}
 use Rattle.request.specs.declared.mode.Mode.{Mode as ModeKind}
-use Rattle.request.specs.declared.mode.Mode.the-variants.{Ir, Sensor, IrBlaster}
+use Rattle.request.specs.declared.mode.Mode.the-variants.{Ir, Sensor, IrBlaster, LedLighting}
 use Rattle.request.specs.Mode.{modeWord}
 use Rattle.reply.specs.declared.Reply.{Reply}
-use Rattle.reply.specs.declared.Reply.the-variants.{Fixed, Error, Mode, State, Complete, Busy, Stopped}
+use Rattle.reply.specs.declared.Reply.the-variants.{Fixed, Error, Mode, State, Complete, Busy, Stopped, Lamp}
 use Rattle.reply.specs.Reply.{addressText, replyText}
 use Rattle.reply.proofs.Lengths.{devices-66, reply-fits}
 use Rattle.connector.specs.declared.Owner.{Owner}
@@ -59,6 +59,11 @@ mode-clear : (mode : ModeKind) → free 13 (modeWord mode) ≡ true
 mode-clear Ir = refl
 mode-clear Sensor = refl
 mode-clear IrBlaster = refl
+mode-clear LedLighting = refl
+
+pair-clear : (a b : ℕ) → free 13 (decimal a ++ bytes "," ++ decimal b) ≡ true
+pair-clear a b =
+    all-append clear (decimal a ++ bytes ",") (decimal b) (all-append clear (decimal a) (bytes ",") (decimal-clear a) refl) (decimal-clear b)
 
 address-clear : (w : List ℕ) (place : Place) → free 13 w ≡ true → free 13 (addressText w place) ≡ true
 address-clear w place e =
@@ -87,6 +92,8 @@ one-line (Complete place id) e = with-last (bytes "completeir,") place (decimal 
 one-line (Busy place id) e = with-last (bytes "busyIR,") place (decimal id) refl (decimal-clear id)
 one-line (Stopped place) e =
     record { front = addressText (bytes "stopir,") place; is = refl; clear = address-clear (bytes "stopir,") place refl }
+one-line (Lamp place level target) e =
+    with-last (bytes "LED_LIGHTING,") place (decimal level ++ bytes "," ++ decimal target) refl (pair-clear level target)
 
 -- ---- printed
 module _ (who : List ℕ) where
@@ -124,6 +131,7 @@ module _ (who : List ℕ) where
   sized (Complete place id) = one-sized (one-line (Complete place id) refl) (reply-fits (Complete place id))
   sized (Busy place id) = one-sized (one-line (Busy place id) refl) (reply-fits (Busy place id))
   sized (Stopped place) = one-sized (one-line (Stopped place) refl) (reply-fits (Stopped place))
+  sized (Lamp place level target) = one-sized (one-line (Lamp place level target) refl) (reply-fits (Lamp place level target))
 
 -- ---- for whom
 pub who-some : (who : Owner) → 1 ≤ length (whoText who)

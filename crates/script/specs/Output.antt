@@ -82,3 +82,4 @@ isOneLine (reply.State place state) = true
 isOneLine (reply.Complete place id) = true
 isOneLine (reply.Busy place id) = true
 isOneLine (reply.Stopped place) = true
+isOneLine (reply.Lamp place level target) = true

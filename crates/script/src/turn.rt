@@ -53,6 +53,11 @@ fn is_one_line(reply: Reply) -> bool
         Reply::Complete { place: _, id: _ } => true,
         Reply::Busy { place: _, id: _ } => true,
         Reply::Stopped { place: _ } => true,
+        Reply::Lamp {
+            place: _,
+            level: _,
+            target: _,
+        } => true,
     }
 }
 

@@ -33,6 +33,10 @@ server-wait = told _ refl (λ _ _ _ _. refl)
 pub server-carriers : One server.Server.carriers.ended (λ _. server.Server.carriers.spec)
 server-carriers = told _ refl (λ _ _ _ _. refl)
 
+-- server::Server::levels
+pub server-levels : One server.Server.levels.ended (λ _. server.Server.levels.spec)
+server-levels = told _ refl (λ _ _ _ _. refl)
+
 -- server::Server::due
 pub server-due : One server.Server.due.ended (λ _. server.Server.due.spec)
 server-due = told _ refl (λ _ _ _ _. refl)

@@ -48,6 +48,10 @@ frames-put-completions = promised _ refl (λ _ _ _ _ _ _ p q. (p .place ∙ sym 
 pub frames-put-carriers : One frames.output.put_carriers.ended (λ _. frames.output.put_carriers.spec)
 frames-put-carriers = promised _ refl (λ _ _ _ _ _ _ p q. (p .place ∙ sym (q .place), both (p .laid ∙ sym (q .laid)) refl))
 
+-- frames::output::put_levels
+pub frames-put-levels : One frames.output.put_levels.ended (λ _. frames.output.put_levels.spec)
+frames-put-levels = promised _ refl (λ _ _ _ _ _ _ p q. (p .place ∙ sym (q .place), both (p .laid ∙ sym (q .laid)) refl))
+
 -- frames::output::put_not_due
 pub frames-put-not-due : One frames.output.put_not_due.ended (λ _. frames.output.put_not_due.spec)
 frames-put-not-due = promised _ refl (λ _ _ _ _ _ _ p q. (p .place ∙ sym (q .place), both (p .laid ∙ sym (q .laid)) refl))

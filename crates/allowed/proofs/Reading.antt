@@ -93,6 +93,14 @@ request-may-have = told _ refl (λ _ _ _ _. refl)
 pub request-is-sensor : One request.mode.is_sensor.ended (λ _. request.mode.is_sensor.spec)
 request-is-sensor = told _ refl (λ _ _ _ _. refl)
 
+-- request::mode::is_lighting
+pub request-is-lighting : One request.mode.is_lighting.ended (λ _. request.mode.is_lighting.spec)
+request-is-lighting = told _ refl (λ _ _ _ _. refl)
+
+-- request::mode::is_silent
+pub request-is-silent : One request.mode.is_silent.ended (λ _. request.mode.is_silent.spec)
+request-is-silent = told _ refl (λ _ _ _ _. refl)
+
 -- request::mode::fresh_mode
 pub request-fresh-mode : One request.mode.fresh_mode.ended (λ _. request.mode.fresh_mode.spec)
 request-fresh-mode = told _ refl (λ _ _ _ _. refl)

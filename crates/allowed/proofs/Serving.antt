@@ -35,6 +35,10 @@ hub-wait = told _ refl (λ _ _ _ _. refl)
 pub hub-carriers : One hub.Hub.carriers.ended (λ _. hub.Hub.carriers.spec)
 hub-carriers = told _ refl (λ _ _ _ _. refl)
 
+-- hub::Hub::levels
+pub hub-levels : One hub.Hub.levels.ended (λ _. hub.Hub.levels.spec)
+hub-levels = told _ refl (λ _ _ _ _. refl)
+
 -- hub::Hub::applied
 pub hub-applied : One hub.Hub.applied.ended (λ _. hub.Hub.applied.spec)
 hub-applied = told _ refl (λ _ _ _ _. refl)

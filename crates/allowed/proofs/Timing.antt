@@ -1,6 +1,7 @@
--- pace, store and connector: time, the pairs that are sent, and one connector.
+-- pace, lamp, store and connector: time, lamps, the pairs that are sent, and one connector.
 use mathlib.Core.Path.{refl, sym, _∙_}
 use Rattle.pace.proofs as pace
+use Rattle.lamp.proofs as lamp
 use Rattle.store.proofs as store
 use Rattle.connector.proofs as connector
 use Rattle.allowed.specs.Allowed.{One}
@@ -33,6 +34,22 @@ pace-place = told _ refl (λ _ _ _ _. refl)
 -- pace::Pace::passed
 pub pace-passed : One pace.Pace.passed.ended (λ _. pace.Pace.passed.spec)
 pace-passed = told _ refl (λ _ _ _ _. refl)
+
+-- lamp::Lamp::dark
+pub lamp-dark : One lamp.Lamp.dark.ended (λ _. lamp.Lamp.dark.spec)
+lamp-dark = told _ refl (λ _ _ _ _. refl)
+
+-- lamp::Lamp::percent
+pub lamp-percent : One lamp.Lamp.percent.ended (λ _. lamp.Lamp.percent.spec)
+lamp-percent = told _ refl (λ _ _ _ _. refl)
+
+-- lamp::Lamp::turned
+pub lamp-turned : One lamp.Lamp.turned.ended (λ _. lamp.Lamp.turned.spec)
+lamp-turned = told _ refl (λ _ _ _ _. refl)
+
+-- lamp::Lamp::passed
+pub lamp-passed : One lamp.Lamp.passed.ended (λ _. lamp.Lamp.passed.spec)
+lamp-passed = told _ refl (λ _ _ _ _. refl)
 
 -- store::keep
 pub store-keep : One store.keep.ended (λ _. store.keep.spec)

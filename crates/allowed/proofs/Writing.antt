@@ -28,6 +28,10 @@ reply-put-address = promised _ refl (λ _ _ _ _ _ _ p q. (p .0 .place ∙ sym (q
 pub reply-put-last : One reply.put_last.ended (λ _. reply.put_last.spec)
 reply-put-last = promised _ refl (λ _ _ _ _ _ _ p q. (p .place ∙ sym (q .place), both (p .laid ∙ sym (q .laid)) refl))
 
+-- reply::put_two
+pub reply-put-two : One reply.put_two.ended (λ _. reply.put_two.spec)
+reply-put-two = promised _ refl (λ _ _ _ _ _ _ p q. (p .place ∙ sym (q .place), both (p .laid ∙ sym (q .laid)) refl))
+
 -- reply::put_mode
 pub reply-put-mode : One reply.put_mode.ended (λ _. reply.put_mode.spec)
 reply-put-mode = promised _ refl (λ _ _ _ _ _ _ p q. (p .place ∙ sym (q .place), both (p .laid ∙ sym (q .laid)) refl))

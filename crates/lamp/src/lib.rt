@@ -60,7 +60,7 @@ impl Lamp {
     }
 
     // Its exact level.
-    pub fn level(self) -> Points
+    fn level(self) -> Points
         requires { ⌜ SoundLamp self ⌝ }
         ensures { λ r. ⌜ r ≡ points (levelOf self) ⌝ }
     {

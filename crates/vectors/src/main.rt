@@ -1,5 +1,5 @@
-// Runs worked values of document 01, those that are too long to be proved, and cases of its rules, and prints each with what was
-// expected.
+// Runs worked values of documents 01 and 02, those that are too long to be proved, and cases of their rules, and prints each with what
+// was expected.
 use code::Code;
 use code::limits::Smallest;
 use command::given::Command;
@@ -7,7 +7,6 @@ use command::given::Given;
 use hub::Answer;
 use hub::Hub;
 use pace::Micros;
-use reply::Reply;
 use request::Place;
 use request::Request;
 use writer::Form;
@@ -16,6 +15,7 @@ use writer::sendir::Written;
 mod carriers;
 mod fill;
 mod handing;
+mod lamps;
 mod renewals;
 mod say;
 mod sending;
@@ -269,22 +269,13 @@ fn long_lines() {
     line_vector(b"getdevices", front(&buf, 10), 0);
 }
 
-// What a fresh hub replies to a line, without its CR; nothing where the line is only taken.
+// What a fresh hub replies to a line.
 fn reply_vector(line: &[u8], expected: &[u8]) {
-    let mut store = [0u16; Hub::COUNTS];
-    let mut reply = [0u8; Reply::ROOM];
-    let fresh = Hub::fresh();
-    let answered = fresh.line(&mut store, 0, line, &mut reply);
-    let size = answered.size;
-    let shown = if size == 0 { 0 } else { size - 1 };
     say::text(b"hub ");
     say::text(line);
-    say::text(b": expected <");
-    say::text(expected);
-    say::text(b">, got <");
-    say::text(front(&reply, shown));
-    say::text(b">");
-    say::verdict(check::same(front(&reply, shown), expected));
+    say::text(b": ");
+    let replied = sending::replies(Hub::fresh(), line, expected);
+    say::verdict(replied);
 }
 
 // Repeats and offsets at their limits: only an offset beyond the code waits for the code.
@@ -333,4 +324,5 @@ fn main() {
     wait_vector(1000000001, 103);
     carriers::vectors();
     renewals::vectors();
+    lamps::vectors();
 }

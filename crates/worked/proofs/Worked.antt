@@ -24,12 +24,13 @@ use Rattle.pace.specs.Pace.{endOf, passed}
 use Rattle.reply.specs.Reply.{replyText}
 use Rattle.connector.specs.Send.{runOf}
 use Rattle.connector.specs.Step.{commandStep, sendStep}
+use Rattle.connector.specs.Pass.{passingLamp}
 use Rattle.hub.specs.Line.{lineStep}
 use Rattle.hub.specs.Wait.{waitCall}
 use Rattle.worked.specs.Table.{Holds, table}
 
 pub worked : Holds table
-unfolding numberOf numberAt endsField afterComma fieldWithin decimal legal samePair learnt isLetter countAt offAt afterOn spelledAt letterAt begunAt nextPair readCode candidate wordAt partAt portAt addressAt addressFault addressed readRequest capped fieldsAt codeAt commandAt codeText endOf firstMicro passed replyText isNumber within isAddress isCount codeIn total done complete finish started onAir set-IR getstate sendir request runOf commandStep sendStep lineStep waitCall
+unfolding numberOf numberAt endsField afterComma fieldWithin decimal legal samePair learnt isLetter countAt offAt afterOn spelledAt letterAt begunAt nextPair readCode candidate wordAt partAt portAt addressAt addressFault addressed readRequest capped fieldsAt codeAt commandAt codeText endOf firstMicro passed replyText isNumber within isAddress isCount codeIn total done complete finish started onAir set-IR getstate sendir request runOf commandStep sendStep passingLamp lineStep waitCall
 worked = (
   (refl, refl),
   (

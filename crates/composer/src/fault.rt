@@ -3,14 +3,10 @@ use crate::Wish;
 use code::Code;
 use command::given::Command;
 use command::given::Given;
+use request::Ask;
 use request::Place;
 ghost use mathlib.Core.Path.{_≡_};
 ghost use Rattle.composer.specs.Fault.{placeFault, fieldsFault, countsFault, sendirFault, lampFault, wishFault};
-
-// The greatest target and ramp of a lamp.
-const MOST_TARGET: u64 = 100;
-
-const MOST_RAMP: u64 = 10;
 
 // 002 for a module out of those that a request takes, 003 for a port that the module does not have.
 fn place_fault(place: Place, least: u64, most: u64) -> u64
@@ -109,17 +105,17 @@ pub fn sendir_fault(command: Command, counts: &[u64]) -> u64
     0
 }
 
-// 023 for a lamp's target or ramp
+// 023 for a lamp's target or ramp.
 fn lamp_fault(target: u64, ramp: u64) -> u64
     ensures { λ r. ⌜ r ≡ lampFault target ramp ⌝ }
 {
     if target < 1 {
         return 23;
     }
-    if MOST_TARGET < target {
+    if Ask::MOST_TARGET < target {
         return 23;
     }
-    if MOST_RAMP < ramp {
+    if Ask::MOST_RAMP < ramp {
         return 23;
     }
     0

@@ -9,6 +9,11 @@ ghost use Rattle.lamp.specs.Lamp.{SoundLamp, points, dark, levelOf, perc
 // A number of hundred-thousandths of a percent.
 pub struct Points(pub u32);
 
+impl Points {
+    // A percent.
+    const PERCENT: u32 = 100000;
+}
+
 // A lamp on its way: how far its target is away still and whether it lies above, the target in percent, and the ramp to it.
 pub struct Lamp {
     pub gap: Points,
@@ -42,7 +47,7 @@ fn remaining(gap: Points, way: u64) -> Points
 fn exactly(percent: u8) -> Points
     ensures { λ r. ⌜ r ≡ points (exactly percent) ⌝ }
 {
-    Points(percent as u32 * 100000)
+    Points(percent as u32 * Points::PERCENT)
 }
 
 impl Lamp {
@@ -77,7 +82,7 @@ impl Lamp {
         ensures { λ r. ⌜ r ≡ percentOf self ⌝ }
     {
         let level = self.level();
-        level.0 as u64 / 100000
+        (level.0 / Points::PERCENT) as u64
     }
 
     // Another target, from the exact level on; with ramp 0 it is there at once.

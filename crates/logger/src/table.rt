@@ -1,5 +1,6 @@
 // Which replies a hub can write.
 use crate::Heard;
+use request::Ask;
 use request::Place;
 ghost use mathlib.Core.Path.{_≡_};
 ghost use Rattle.laws.specs.Checks.{oneOf};
@@ -7,9 +8,6 @@ ghost use Rattle.logger.specs.Heard.{isPortOf, isConnector, isRelay, isN
 
 // The greatest id of a command.
 const MOST_ID: u64 = 65535;
-
-// The greatest level and target of a lamp.
-const MOST_PERCENT: u64 = 100;
 
 // 0:0, the place of an error that names none.
 fn is_nowhere(a: Place) -> bool
@@ -79,17 +77,17 @@ fn is_error(n: u64, a: Place) -> bool
     one_of(&[13, 14, 18, 23, 28, 29, 4, 5, 6, 7, 9, 10, 20, 21, 22], n)
 }
 
-// Whether a lamp can be at this level with this target.
+// Whether a lamp can be at this level with this target; no level is above every target.
 fn is_level(level: u64, target: u64) -> bool
     ensures { λ r. ⌜ r ≡ isLevel level target ⌝ }
 {
     if target == 0 {
         return level == 0;
     }
-    if MOST_PERCENT < target {
+    if Ask::MOST_TARGET < target {
         return false;
     }
-    level <= MOST_PERCENT
+    level <= Ask::MOST_TARGET
 }
 
 // Whether a hub can write this reply.

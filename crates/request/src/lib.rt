@@ -58,6 +58,13 @@ pub enum Ask {
     GetLamp { more: bool },
 }
 
+impl Ask {
+    // The greatest target of a lamp, in percent.
+    pub const MOST_TARGET: u64 = 100;
+    // The greatest ramp, in percent for each 100,000 microseconds.
+    pub const MOST_RAMP: u64 = 10;
+}
+
 // What is asked of a relay.
 pub enum Turn {
     Set(u64),

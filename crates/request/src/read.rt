@@ -121,7 +121,7 @@ fn get_state_at(s: &[u8], place: Place, end: usize) -> Request
 fn ramp_at(s: &[u8], place: Place, target: u8, at: usize) -> Request
     ensures { λ r. ⌜ r ≡ rampAt (now (s .entry)) place target at ⌝ }
 {
-    match text::field::field_within(s, at, 0, 10) {
+    match text::field::field_within(s, at, 0, Ask::MOST_RAMP) {
         Field::Bad => Request::Fault { number: 23, place },
         Field::Good(ramp, end) => {
             let ramp = ramp as u8;
@@ -134,7 +134,7 @@ fn ramp_at(s: &[u8], place: Place, target: u8, at: usize) -> Request
 fn set_lamp_at(s: &[u8], place: Place, at: usize) -> Request
     ensures { λ r. ⌜ r ≡ setLampAt (now (s .entry)) place at ⌝ }
 {
-    match text::field::field_within(s, at, 1, 100) {
+    match text::field::field_within(s, at, 1, Ask::MOST_TARGET) {
         Field::Bad => Request::Fault { number: 23, place },
         Field::Good(target, end) => ramp_at(s, place, target as u8, after_comma(s, end)),
     }

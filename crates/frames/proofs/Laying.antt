@@ -1,4 +1,4 @@
--- For the functions that lay frames: lengths, and the completions of a wait one by one.
+-- For the functions that lay frames: lengths, levels, and the completions of a wait one by one.
 use Prim.Native.Nat.{ℕ, _+_, _*_, _^_, _≤_, _<_}
 use mathlib.Core.Path.{_≡_, refl, sym, ap, _∙_}
 use mathlib.Core.List.{List, [], _∷_, _++_, map, append-assoc, append-nil}
@@ -10,6 +10,9 @@ use lib.Seq.{take-suc, take-all}
 use Rattle.laws.specs.Put.{Put}
 use Rattle.laws.proofs.Put.{over-front, nothing, put-length, then}
 use Rattle.laws.proofs.Slots.{made-of}
+use Rattle.lamp.specs.declared.Lamp.{Lamp}
+use Rattle.lamp.specs.Lamp.{SoundLamp, percentOf}
+use Rattle.lamp.proofs.Keeps.{level-most}
 use Rattle.reply.specs.declared.Reply.the-variants.{Complete}
 use Rattle.reply.proofs.Lengths.{reply-fits}
 use Rattle.reply.specs.Reply.{replyText}
@@ -18,8 +21,11 @@ use Rattle.connector.specs.declared.Owner.the-variants as owner
 use Rattle.connector.specs.declared.Answer.{Answer}
 use Rattle.connector.specs.declared.Answer.the-variants as answer
 use Rattle.connector.specs.declared.Completion.{Completion}
-use Rattle.frames.specs.Layout.{fourBytes, frameOf}
-use Rattle.frames.specs.Output.{replyFrames, answerFrames, completionFrame, completionFrames}
+use Rattle.hub.specs.declared.Hub.{Hub}
+use Rattle.hub.specs.Record.{SoundHub}
+use Rattle.hub.specs.Calls.{levelsOf}
+use Rattle.frames.specs.Layout.{lowByte, fourBytes, letter, frameOf}
+use Rattle.frames.specs.Output.{replyFrames, answerFrames, completionFrame, completionFrames, levelsFrame}
 
 -- the number of three bytes of a wait at most
 pub wait-small : (come number : ℕ) → come ≤ 3 → number < 256 ^ come → number < 16777216
@@ -47,6 +53,19 @@ answer-fits connection (answer.Reply r also) = omega (arith, reply-length connec
 pub each-is : {A : Type 0} (kind : ℕ) (f : A → ℕ) (l : List A) (d : A) → length l ≡ 3
     → frameOf kind 0 (map f l) ≡ frameOf kind 0 (f (getD l 0 d) ∷ f (getD l 1 d) ∷ f (getD l 2 d) ∷ [])
 each-is kind f l d three = ap (λ m. frameOf kind 0 (map f m)) (made-of l 3 d three)
+
+-- a level is 100 percent at most, so that its byte is the level itself
+level-byte : {x : Lamp} → SoundLamp x → lowByte (percentOf x) ≡ percentOf x
+unfolding percentOf
+level-byte s = omega (arith, level-most s)
+
+pub levels-told : (h : Hub) → SoundHub h → levelsFrame (levelsOf h) ≡ frameOf (letter "l") 0 (levelsOf h)
+levels-told h k =
+    rw (
+      level-byte (k .each 0 (omega arith) .lights),
+      level-byte (k .each 1 (omega arith) .lights),
+      level-byte (k .each 2 (omega arith) .lights),
+    )
 
 -- ---- completions
 pub completion-fits : (c : Completion) → length (completionFrame c) ≤ 136

@@ -34,7 +34,7 @@ use Rattle.request.specs.Name.{fixedWord, nameOf, wordAt}
 use Rattle.request.specs.Address.{hasModule, addressAt, addressFault}
 use Rattle.request.specs.Mode.{modeAt, mayHave}
 use Rattle.request.specs.Request.{isPrintable, fault, alone, modeRead, setIrAt, stateRead, setStateAt, getStateAt, rampRead, rampAt, targetRead, setLampAt, atAddress, addressRead, addressed, asked, readRequest}
-use Rattle.request.specs.Accepted.{ConnectorAt, RelayAt, unaddressed, unnamed, no-mode, no-blaster, no-state, Within}
+use Rattle.request.specs.Accepted.{ConnectorAt, RelayAt, unaddressed, unnamed, no-mode, no-lamp, no-blaster, no-state, Within}
 
 -- a complete request is within the limits, and so is the fault of what stands behind it
 alone-within : (s : List ℕ) (end : ℕ) (r : Request) → Within r → Within (alone s end r)
@@ -69,13 +69,13 @@ set-state-within s place at p =
 ramp-within : (s : List ℕ) (place : Place) (target at : ℕ) → ConnectorAt place → 1 ≤ target → target ≤ 100 → Within (rampAt s place target at)
 unfolding rampAt
 ramp-within s place target at p least most =
-    field-case (λ (f : Field). Within (rampRead s place target f)) 0 10 s at (no-mode p)
+    field-case (λ (f : Field). Within (rampRead s place target f)) 0 10 s at (no-lamp p)
     (λ ramp end _ fast. (p, (least, most, fast)))
 
 set-lamp-within : (s : List ℕ) (place : Place) (at : ℕ) → ConnectorAt place → Within (setLampAt s place at)
 unfolding setLampAt
 set-lamp-within s place at p =
-    field-case (λ (f : Field). Within (targetRead s place f)) 1 100 s at (no-mode p)
+    field-case (λ (f : Field). Within (targetRead s place f)) 1 100 s at (no-lamp p)
     (λ target end least most. ramp-within s place target (afterComma s end) p least most)
 
 -- the module and the port of an address that a request takes

@@ -36,6 +36,7 @@ unaddressed = 15 ∷ 1 ∷ 17 ∷ 2 ∷ 3 ∷ []
 pub data PossibleFault : ℕ → Place → Type 0 where
   unnamed : {n : ℕ} → oneOf unaddressed n ≡ true → PossibleFault n nowhere
   no-mode : {place : Place} → ConnectorAt place → PossibleFault 23 place
+  no-lamp : {place : Place} → ConnectorAt place → PossibleFault 23 place
   no-blaster : {place : Place} → ConnectorAt place → (place .port ≡ 3 → ⊥) → PossibleFault 14 place
   no-state : {place : Place} → RelayAt place → PossibleFault 23 place
 

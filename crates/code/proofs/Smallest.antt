@@ -1,7 +1,7 @@
 -- Laws of the limits: what is legal, and the smallest legal count.
 use Prim.Native.Nat.{ℕ, _+_, _-_, _*_, _/_, _≤_, _<_}
 use mathlib.Core.Path.{_≡_, sym, ap, _∙_}
-use mathlib.Core.Bool.{true, false}
+use mathlib.Core.Bool.{true, false, cond}
 use native.Mathlib.Omega.{arith}
 use borrow.Author.Tests.{ltb-true, ltb-false, leb-true, lt-ltb, le-ltb, le-leb, lt-leb}
 use lib.Dec.{ltb}
@@ -48,24 +48,52 @@ in-range : {freq : ℕ} → 15000 ≤ freq → freq ≤ 500000 → freqInRange f
 unfolding freqInRange
 in-range {freq} l h = rw (le-ltb freq 15000 l) (le-leb freq 500000 h)
 
-pub least-count : {freq : ℕ} → 15000 ≤ freq → freq ≤ 500000 → (freq + 12499) / 12500 < 4 → SmallestCount freq (Count 4)
-least-count {freq} l h s = (
+-- The search: nothing below `count` is legal, and `count` or one of so many more behind it is.
+pub record Searching (freq count more : ℕ) : Type 0 where
+  pub low : 4 ≤ count
+  pub high : count + more ≤ 50000
+  pub passed : (k : ℕ) → k < count → legal freq k ≡ false
+  pub reached : freq ≤ 12500 * (count + more)
+
+pub search-begins : {freq : ℕ} → freq ≤ 500000 → Searching freq 4 63
+search-begins h =
+    record { low = omega arith; high = omega arith; passed = λ k b. not-legal (λ g. omega (arith, g .low, b)); reached = omega (arith, h) }
+
+-- one look at the last count of the first half tells which half it is in
+pub search-halves : {freq count next : ℕ} (more : ℕ) → Searching freq count (more + more + 1)
+    → next ≡ cond (ltb (12500 * (count + more)) freq) (count + more + 1) count → Searching freq next more
+search-halves {freq} {count} {next} more s e =
+    by-test
+    (ltb (12500 * (count + more)) freq)
+    (λ t.
+    rw (e, t)
+    (record {
+      low = omega (arith, s .low);
+      high = omega (arith, s .high);
+      passed = λ k b. not-legal (λ g. omega (arith, g .long, b, ltb-true (12500 * (count + more)) freq t));
+      reached = omega (arith, s .reached);
+    }))
+    (λ t.
+    rw (e, t)
+    (record { low = s .low; high = omega (arith, s .high); passed = s .passed; reached = ltb-false (12500 * (count + more)) freq t }))
+
+pub search-ends : {freq count : ℕ} → 15000 ≤ freq → freq ≤ 500000 → Searching freq count 0 → SmallestCount freq (Count count)
+search-ends l h s = (
   record {
-    allowed = is-legal (record { low = omega arith; high = omega arith; long = omega arith });
-    least = λ k b. not-legal (λ g. omega (arith, g .low));
+    allowed = is-legal (record { low = s .low; high = omega (arith, s .high); long = omega (arith, s .reached) });
+    least = s .passed;
   },
   in-range l h,
 )
 
+-- a division gives the same
 pub shortest-count : {freq : ℕ} → 15000 ≤ freq → freq ≤ 500000 → 4 ≤ (freq + 12499) / 12500
     → SmallestCount freq (Count ((freq + 12499) / 12500))
-shortest-count {freq} l h s = (
-  record {
-    allowed = is-legal (record { low = s; high = omega arith; long = omega arith });
-    least = λ k b. not-legal (λ g. omega (arith, g .long, b));
-  },
-  in-range l h,
-)
+shortest-count {freq} l h s =
+    search-ends
+    l
+    h
+    (record { low = s; high = omega arith; passed = λ k b. not-legal (λ g. omega (arith, g .long, b)); reached = omega arith })
 
 -- two answers that the promise allows are equal
 smallest-unique : (freq c d : ℕ) → IsSmallest freq c → IsSmallest freq d → c ≡ d

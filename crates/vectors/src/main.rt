@@ -234,6 +234,8 @@ fn smallest_counts() {
     smallest_vector(50000, false, 4);
     smallest_vector(50001, false, 5);
     smallest_vector(60000, false, 5);
+    smallest_vector(62500, false, 5);
+    smallest_vector(62501, false, 6);
     smallest_vector(487500, false, 39);
     smallest_vector(487501, false, 40);
     smallest_vector(500000, false, 40);

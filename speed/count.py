@@ -10,9 +10,17 @@ import re
 import subprocess
 import sys
 import tempfile
+from pathlib import Path
 
+HERE = Path(__file__).resolve().parent
+PAGE = 4096
 PLACE = re.compile(rb"^Trace \d+: 0x[0-9a-f]+ \[[0-9a-f]+/([0-9a-f]+)/", re.M)
 CHUNK = 1 << 22
+
+
+def words(program):
+    """The words of the command that runs a program of the project."""
+    return subprocess.run([HERE / "../run", "--command", program], capture_output=True, text=True, check=True).stdout.splitlines()
 
 
 def is_emulated(command):
@@ -32,15 +40,30 @@ def traced(command, source, what, pattern):
         sys.exit(f"{command[-1]} failed")
 
 
+def loaded_at(main, addresses, places):
+    """Where a program was loaded, of whose code these addresses are: the shift at which the most of them are among the places executed."""
+    shifts = {place - main for place in places if (place - main) % PAGE == 0}
+    if not shifts:
+        sys.exit("the program is not found where it ran")
+    return max(shifts, key=lambda shift: sum(address + shift in places for address in addresses))
+
+
 def by_emulator(command, source):
     return sum(1 for _ in itertools.groupby(traced(command, source, "exec", PLACE)))
 
 
-def by_valgrind(command, source):
+def callgrind(command, source, *options):
+    """What valgrind says of a run of a command, and the file of counts that it writes."""
     with tempfile.TemporaryDirectory() as room:
-        said = subprocess.run(["valgrind", "--tool=callgrind", f"--callgrind-out-file={room}/out", *command],
+        out = Path(room) / "out"
+        said = subprocess.run(["valgrind", "--tool=callgrind", f"--callgrind-out-file={out}", *options, *command],
                               stdin=source, stdout=subprocess.DEVNULL, stderr=subprocess.PIPE, text=True, check=True)
-    return int(re.search(r"Collected : (\d+)", said.stderr)[1])
+        return said.stderr, out.read_text()
+
+
+def by_valgrind(command, source):
+    said, _ = callgrind(command, source)
+    return int(re.search(r"Collected : (\d+)", said)[1])
 
 
 def instructions(command, name):

@@ -1,5 +1,7 @@
 // The bench: a hub on standard input and output. It reads what there is, in blocks, and writes every answer to that before it reads
 // again, so that whoever is at the other end sees each reply at once, and a long script needs no more memory than a short one.
+#![tactic(auto)]
+
 ghost use Rattle.std.specs.Prelude.{◌≤◌, length};
 ghost use Rattle.hub.specs.Record.{SoundHub};
 

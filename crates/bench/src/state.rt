@@ -4,7 +4,7 @@ ghost use Rattle.hub.specs.Record.{SoundHub};
 use hub::Hub;
 
 // A line that is not ended: its length so far, and whether there was more than has room.
-#[derive(Drop)]
+#[derive(Clone, Copy)]
 pub struct Begun {
     pub size: usize,
     pub over: bool,
@@ -24,7 +24,7 @@ impl Begun {
 }
 
 // The hub, the line so far, and how many bytes are to be written.
-#[derive(Drop)]
+#[derive(Clone, Copy)]
 pub struct State {
     pub hub: Hub,
     pub begun: Begun,

@@ -6,7 +6,7 @@ ghost use Rattle.code.specs.Letters.{no_letters, place_of, held, Learns};
 use crate::Code;
 use words::Pair;
 
-#[derive(Drop)]
+#[derive(Clone, Copy)]
 pub struct Letters {
     pub count: usize,
     pub pairs: [Pair; Code::LETTERS],

@@ -1,7 +1,8 @@
 // An infrared code: pairs of on and off counts of carrier periods, read from plain or lettered text.
+#![tactic(auto)]
 
 // What a code's text is: so many pairs, or its first fault. The counts of the pairs stand in an array beside.
-#[derive(Drop)]
+#[derive(Clone, Copy)]
 pub enum Code {
     Fault(u64),
     Pairs(usize),

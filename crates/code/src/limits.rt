@@ -5,7 +5,7 @@ ghost use Rattle.code.specs.Limits.{legal, SmallestCount};
 use crate::Code;
 
 // The smallest legal count for a frequency, or a refusal.
-#[derive(Drop)]
+#[derive(Clone, Copy)]
 pub enum Smallest {
     Refused(u64),
     Count(u64),

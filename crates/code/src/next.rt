@@ -6,14 +6,14 @@ use crate::Code;
 use text::number::Number;
 
 // A count and the place behind it, or none within the limits.
-#[derive(Drop)]
+#[derive(Clone, Copy)]
 pub enum Count {
     Bad,
     Good(u16, usize),
 }
 
 // What stands before a place in a code's text: nothing of the code, a spelled pair or a letter.
-#[derive(Drop)]
+#[derive(Clone, Copy)]
 pub enum After {
     Nothing,
     Spelling,
@@ -21,7 +21,7 @@ pub enum After {
 }
 
 // What stands at a place: the text's end, a spelled pair or the letter of such a number, each with the place behind it, or a fault.
-#[derive(Drop)]
+#[derive(Clone, Copy)]
 pub enum Next {
     End,
     Spelled(u16, u16, usize),

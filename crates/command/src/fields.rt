@@ -7,7 +7,7 @@ use text::field::Field;
 use words::Fields;
 
 // A sendir behind its address: the first fault of its fields, or the fields and where the code begins.
-#[derive(Drop)]
+#[derive(Clone, Copy)]
 pub enum FieldsRead {
     Fault(u64),
     Good(Fields, usize),

@@ -10,7 +10,7 @@ use request::Place;
 use words::Fields;
 
 // The fields of a command as they are given.
-#[derive(Drop)]
+#[derive(Clone, Copy)]
 pub struct Given {
     pub id: u64,
     pub freq: u64,
@@ -19,7 +19,7 @@ pub struct Given {
 }
 
 // Where a command goes, and its fields.
-#[derive(Drop)]
+#[derive(Clone, Copy)]
 pub struct Command {
     pub place: Place,
     pub fields: Given,

@@ -6,7 +6,7 @@ use code::Code;
 use words::Fields;
 
 // The first fault, or the fields and the number of pairs, whose counts stand in an array beside.
-#[derive(Drop)]
+#[derive(Clone, Copy)]
 pub enum CommandRead {
     Fault(u64),
     Sent(Fields, usize),

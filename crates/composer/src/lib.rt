@@ -1,9 +1,11 @@
 // The logger's other half: requests composed into a lent line, each with its CR.
+#![tactic(auto)]
+
 use request::mode::Mode;
 use request::{Fixed, Place};
 
 // A request to compose, but for sendir. A mode is one of its four, so that 023 cannot come from it.
-#[derive(Drop)]
+#[derive(Clone, Copy)]
 pub enum Wish {
     Fixed(Fixed),
     SetMode(Place, Mode),
@@ -17,7 +19,7 @@ pub enum Wish {
 }
 
 // The length of the line that was composed, with its CR, or a refusal.
-#[derive(Drop)]
+#[derive(Clone, Copy)]
 pub enum Composed {
     Refused(u64),
     Line(usize),

@@ -1,4 +1,6 @@
 // One connector: its record, and what becomes of it. The counts of what it sends stand in a lent array of its own.
+#![tactic(auto)]
+
 ghost use Rattle.std.specs.Prelude.{◌≡◌};
 ghost use Rattle.connector.specs.Record.{fresh_connector};
 
@@ -10,34 +12,34 @@ use request::mode::Mode;
 use words::Fields;
 
 // Who hears of a transmission: a connection, or nobody.
-#[derive(Drop)]
+#[derive(Clone, Copy)]
 pub enum Owner {
     Nobody,
     Connection(u8),
 }
 
 // A contact: no reading since the hub or the mode began, or the last one.
-#[derive(Drop)]
+#[derive(Clone, Copy)]
 pub enum Contact {
     Unread,
     Read(u8),
 }
 
 // A transmission: the command's fields, its number of pairs, and how far it is.
-#[derive(Drop)]
+#[derive(Clone, Copy)]
 pub struct Run {
     pub fields: Fields,
     pub count: usize,
     pub pace: Pace,
 }
 
-#[derive(Drop)]
+#[derive(Clone, Copy)]
 pub enum Sending {
     Idle,
     Running(Run),
 }
 
-#[derive(Drop)]
+#[derive(Clone, Copy)]
 pub struct Connector {
     pub owner: Owner,
     pub mode: Mode,
@@ -62,7 +64,7 @@ impl Connector {
 
 // What a call is answered: it is refused with a number, taken with nothing to say, or answered with a reply for the asker and
 // perhaps for an owner too.
-#[derive(Drop)]
+#[derive(Clone, Copy)]
 pub enum Answer {
     Refused(u64),
     Taken,
@@ -70,21 +72,21 @@ pub enum Answer {
 }
 
 // What becomes of a connector: it stays as it is, or it becomes another record.
-#[derive(Drop)]
+#[derive(Clone, Copy)]
 pub enum Change {
     Nothing,
     Becomes(Connector),
 }
 
 // What a request to a connector gives: the answer and the change.
-#[derive(Drop)]
+#[derive(Clone, Copy)]
 pub struct Stepped {
     pub answer: Answer,
     pub change: Change,
 }
 
 // A transmission that is complete: for whom, when, counted from the wait's start, on which connector, and its command's id.
-#[derive(Drop)]
+#[derive(Clone, Copy)]
 pub struct Completion {
     pub owner: Owner,
     pub moment: Micros,

@@ -9,7 +9,7 @@ use request::Place;
 
 // What a wait makes of a connector: it stays as it is, it goes on with its transmission or its lamp with its ramp, or the transmission is
 // complete and it is idle then.
-#[derive(Drop)]
+#[derive(Clone, Copy)]
 pub enum Passing {
     Still,
     Running(Connector),

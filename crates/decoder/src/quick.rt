@@ -5,14 +5,14 @@ ghost use Rattle.std.specs.Prelude.{◌≡◌};
 use text::number::is_digit;
 
 // A number and the place behind it.
-#[derive(Drop)]
+#[derive(Clone, Copy)]
 pub struct Short {
     pub value: u64,
     pub next: usize,
 }
 
 // A pair behind a comma, with the place behind it, or anything else.
-#[derive(Drop)]
+#[derive(Clone, Copy)]
 pub enum Quick {
     Pair(u16, u16, usize),
     Other,

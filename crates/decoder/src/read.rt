@@ -16,7 +16,7 @@ use code::next::{After, Next};
 use words::Pair;
 
 // How far a code is read: so many pairs, up to a place.
-#[derive(Drop)]
+#[derive(Clone, Copy)]
 pub struct Far {
     pub count: usize,
     pub at: usize,

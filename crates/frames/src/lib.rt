@@ -1,5 +1,7 @@
 // The frames that the port's program reads; docs/PORT.md lays them out. A frame that comes in is taken apart byte by byte, and none is kept
 // whole. Frames that go out are laid into a lent buffer by the crate `output`.
+#![tactic(auto)]
+
 ghost use Rattle.std.specs.Prelude.{◌≡◌, ◌+◌, ◌*◌};
 ghost use Rattle.frames.specs.Read.{part_of, is_head, is_nothing, goes_on, read_of};
 ghost use Rattle.frames.specs.Read.{SoundFrame, piece_of, passing, next_step, more, gives, other, whole, piece_step, wait_step, head_step};
@@ -7,7 +9,7 @@ ghost use Rattle.frames.specs.Read.{SoundFrame, piece_of, passing, next_step, mo
 use pace::Micros;
 
 // The frame in hand, as far as its bytes have come.
-#[derive(Drop)]
+#[derive(Clone, Copy)]
 pub enum Frame {
     // Between two frames.
     Between,
@@ -40,7 +42,7 @@ pub enum Frame {
 }
 
 // What a byte completes. A refusal is for a frame's connection; one of 0 is that of a frame of another form.
-#[derive(Drop)]
+#[derive(Clone, Copy)]
 pub enum Event {
     Nothing,
     Closed(u8),
@@ -53,14 +55,14 @@ pub enum Event {
 }
 
 // The frame behind a byte, and what the byte completes.
-#[derive(Drop)]
+#[derive(Clone, Copy)]
 pub struct Step {
     pub frame: Frame,
     pub event: Event,
 }
 
 // What the next byte is of: a frame's head or number, a piece, or a frame that is passed over.
-#[derive(Drop)]
+#[derive(Clone, Copy)]
 pub enum Part {
     Head,
     Piece { connection: u8, left: usize },
@@ -68,7 +70,7 @@ pub enum Part {
 }
 
 // What bytes gave: the frame behind them, what they complete, and how many they were.
-#[derive(Drop)]
+#[derive(Clone, Copy)]
 pub struct Read {
     pub frame: Frame,
     pub event: Event,

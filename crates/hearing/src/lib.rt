@@ -1,3 +1,5 @@
 // What a reply line is.
+#![tactic(auto)]
+
 mod guess;
 pub mod read;

@@ -8,7 +8,7 @@ use pace::Micros;
 use request::Place;
 
 // The completions of a wait in their order; those behind the count are none.
-#[derive(Drop)]
+#[derive(Clone, Copy)]
 pub struct Completions {
     pub count: usize,
     pub items: [Completion; Hub::CONNECTORS],

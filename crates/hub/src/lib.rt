@@ -1,6 +1,8 @@
 // The hub: its record and its calls, in document 01's order. The record is small and goes by value; the counts of what is being sent
 // stand in a lent array. A call that reaches one connector or relay gives the change that it makes, for `applied`; one that reaches every
 // connector gives the hub.
+#![tactic(auto)]
+
 ghost use Rattle.std.specs.Prelude.{◌≡◌, length};
 ghost use Rattle.hub.specs.Record.{fresh_hub, applied, SoundHub, InRange};
 ghost use Rattle.hub.specs.Line.{Writes, Answers, line_step, overlong_step};
@@ -14,7 +16,7 @@ use pace::Micros;
 use reply::Reply;
 use request::Place;
 
-#[derive(Drop)]
+#[derive(Clone, Copy)]
 pub struct Hub {
     pub connectors: [Connector; Hub::CONNECTORS],
     pub relays: [u64; Hub::RELAYS],
@@ -25,7 +27,7 @@ pub struct Hub {
 pub type Store = [u16; Hub::COUNTS];
 
 // What a call makes of the hub: nothing, another record of one connector, or another state of one relay. A slot is 0 for port 1.
-#[derive(Drop)]
+#[derive(Clone, Copy)]
 pub enum HubChange {
     Nothing,
     Connector { slot: usize, connector: Connector },
@@ -33,14 +35,14 @@ pub enum HubChange {
 }
 
 // What a call is answered, and what it changes.
-#[derive(Drop)]
+#[derive(Clone, Copy)]
 pub struct Decided {
     pub answer: Answer,
     pub change: HubChange,
 }
 
 // The same for a line, and how many bytes were written into the reply buffer.
-#[derive(Drop)]
+#[derive(Clone, Copy)]
 pub struct Answered {
     pub answer: Answer,
     pub change: HubChange,
@@ -48,14 +50,14 @@ pub struct Answered {
 }
 
 // What a call that reaches every connector is answered, with the hub after it.
-#[derive(Drop)]
+#[derive(Clone, Copy)]
 pub struct Moved {
     pub answer: Answer,
     pub hub: Hub,
 }
 
 // The same for a wait, with its completions.
-#[derive(Drop)]
+#[derive(Clone, Copy)]
 pub struct Waited {
     pub answer: Answer,
     pub hub: Hub,
@@ -63,7 +65,7 @@ pub struct Waited {
 }
 
 // A line that was written, with its length, or a refusal.
-#[derive(Drop)]
+#[derive(Clone, Copy)]
 pub enum Written {
     Refused(u64),
     Line(usize),

@@ -10,7 +10,7 @@ use connector::pass::Passing;
 use pace::Micros;
 use request::Place;
 
-#[derive(Drop)]
+#[derive(Clone, Copy)]
 pub struct AllPassed {
     pub connectors: [Connector; Hub::CONNECTORS],
     pub completions: Completions,

@@ -1,5 +1,7 @@
 // A dimmable lamp: how bright it is, exactly, and where it goes. A level is counted in hundred-thousandths of a percent: ramp r moves r of
 // them in each microsecond, so that nothing is ever rounded.
+#![tactic(auto)]
+
 ghost use Rattle.std.specs.Prelude.{◌≡◌, ◌-◌, ◌≤◌};
 ghost use Rattle.meaning.specs.Lamp.{exactly};
 ghost use Rattle.lamp.specs.Lamp.{SoundLamp, points, dark, level_of, percent_of, apart, turned, passed};
@@ -7,7 +9,7 @@ ghost use Rattle.lamp.specs.Lamp.{SoundLamp, points, dark, level_of, percent_of,
 use pace::Micros;
 
 // A number of hundred-thousandths of a percent.
-#[derive(Drop)]
+#[derive(Clone, Copy)]
 pub struct Points(pub u32);
 
 impl Points {
@@ -16,7 +18,7 @@ impl Points {
 }
 
 // A lamp on its way: how far its target is away still and whether it lies above, the target in percent, and the ramp to it.
-#[derive(Drop)]
+#[derive(Clone, Copy)]
 pub struct Lamp {
     pub gap: Points,
     pub target: u8,

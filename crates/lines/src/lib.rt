@@ -1,17 +1,19 @@
 // The assembler: it joins the pieces of one connection's stream into lines, each ended by CR. The bytes of a line stand in a lent
 // buffer, from its start on.
+#![tactic(auto)]
+
 ghost use Rattle.std.specs.Prelude.{◌≡◌, suc, length, set};
 ghost use Rattle.lines.specs.Take.{fresh_assembler, SoundAssembler, counted, found_of, take_step, Takes};
 
 // How many bytes of an unfinished line there are; one byte more than has room stands for any more. The bytes themselves are only in
 // the buffer: while a line is unfinished, each call wants the buffer of the call before, untouched.
-#[derive(Drop)]
+#[derive(Clone, Copy)]
 pub struct Assembler {
     pub size: usize,
 }
 
 // What a call has: no line yet, a whole line of so many bytes, an overlong one, or a refusal.
-#[derive(Drop)]
+#[derive(Clone, Copy)]
 pub enum Found {
     Nothing,
     Line(usize),
@@ -20,7 +22,7 @@ pub enum Found {
 }
 
 // The assembler after a call, how many bytes of the piece the call used, and what it has.
-#[derive(Drop)]
+#[derive(Clone, Copy)]
 pub struct Taken {
     pub assembler: Assembler,
     pub used: usize,

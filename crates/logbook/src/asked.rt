@@ -10,7 +10,7 @@ use request::{Fixed, Place};
 use writer::Form;
 
 // What a line asks for: a request, a set_IR whose mode is none, a sendir with so many counts, or it is of another form.
-#[derive(Drop)]
+#[derive(Clone, Copy)]
 pub enum Asked {
     Other,
     Wish(Wish),
@@ -19,7 +19,7 @@ pub enum Asked {
 }
 
 // The form that a code is to have, or none.
-#[derive(Drop)]
+#[derive(Clone, Copy)]
 enum FormRead {
     Bad,
     Good(Form),

@@ -6,7 +6,7 @@ use logger::tally::{Average, Tally};
 use request::Place;
 
 // Those of the connectors come first, then those of the relays.
-#[derive(Drop)]
+#[derive(Clone, Copy)]
 pub struct Book {
     pub tallies: [Tally; Book::PLACES],
 }

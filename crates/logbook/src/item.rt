@@ -3,28 +3,28 @@ use crate::scan;
 use request::Place;
 
 // What a word is: a number of 1 to 10 digits, or none.
-#[derive(Drop)]
+#[derive(Clone, Copy)]
 enum Number {
     Bad,
     Good(u64),
 }
 
 // A number and the place behind it, or none.
-#[derive(Drop)]
+#[derive(Clone, Copy)]
 pub enum NumberRead {
     Bad,
     Good(u64, usize),
 }
 
 // The two numbers of a place and the place behind them, or none.
-#[derive(Drop)]
+#[derive(Clone, Copy)]
 pub enum PlaceRead {
     Bad,
     Good(Place, usize),
 }
 
 // How many counts there are up to the line's end, or another form.
-#[derive(Drop)]
+#[derive(Clone, Copy)]
 pub enum Counts {
     Bad,
     Good(usize),

@@ -1,5 +1,7 @@
 // The logbook: what replies are, requests composed, and averages of states, on standard input and output. It reads what there is, in
 // blocks, and writes what it says to that before it reads again, so that a long input needs no more memory than a short one.
+#![tactic(auto)]
+
 ghost use Rattle.logbook.specs.Book.{SoundBook};
 
 use crate::state::State;

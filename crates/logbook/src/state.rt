@@ -4,7 +4,7 @@ ghost use Rattle.logbook.specs.Book.{SoundBook};
 use crate::book::Book;
 
 // The tallies, and how many bytes of a line there are that no LF has ended yet.
-#[derive(Drop)]
+#[derive(Clone, Copy)]
 pub struct State {
     pub book: Book,
     pub size: usize,

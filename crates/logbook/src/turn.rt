@@ -17,7 +17,7 @@ use writer::Form;
 const KEPT: usize = 521;
 
 // How many bytes are to be written, and the tallies.
-#[derive(Drop)]
+#[derive(Clone, Copy)]
 pub struct Turned {
     pub used: usize,
     pub book: Book,

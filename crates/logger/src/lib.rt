@@ -1,9 +1,11 @@
 // The logger's half of the talk: the replies that a line can be, and the average of the states that replies told.
+#![tactic(auto)]
+
 use request::Place;
 use request::mode::Mode;
 
 // A line of the device list.
-#[derive(Drop)]
+#[derive(Clone, Copy)]
 pub enum Device {
     Ethernet,
     Infrared,
@@ -12,7 +14,7 @@ pub enum Device {
 }
 
 // What a line is. Only a State has a contact's or a relay's 0 or 1.
-#[derive(Drop)]
+#[derive(Clone, Copy)]
 pub enum Heard {
     NotReply,
     // state,m:p,s

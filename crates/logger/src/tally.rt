@@ -6,7 +6,7 @@ use crate::Heard;
 use request::Place;
 
 // The readings of one place, how many of them were 1, and how many lines were something else.
-#[derive(Drop)]
+#[derive(Clone, Copy)]
 pub struct Tally {
     pub place: Place,
     pub readings: u64,
@@ -15,7 +15,7 @@ pub struct Tally {
 }
 
 // The average of a place's readings: so many ones of so many readings; none where there is no reading.
-#[derive(Drop)]
+#[derive(Clone, Copy)]
 pub enum Average {
     NoReading,
     Of(u64, u64),

@@ -1,1 +1,2 @@
 // No code: what each call means, in specs/.
+#![tactic(auto)]

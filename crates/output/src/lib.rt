@@ -1,4 +1,6 @@
 // What comes out of the port: whole frames, laid into a lent buffer from a place on. Each function gives the place behind what it laid, and asks for room.
+#![tactic(auto)]
+
 ghost use Rattle.std.specs.Prelude.{◌≡◌, [], ◌∷◌, ◌++◌, ◌+◌, ◌*◌, ◌≤◌, length};
 ghost use Rattle.laws.specs.Put.{Put};
 ghost use Rattle.hub.specs.Record.{InRange};

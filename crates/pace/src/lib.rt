@@ -1,5 +1,7 @@
 // Time on a connector: how far a transmission is and when it ends, exactly. A tick is a millionth of a carrier period: in one
 // microsecond as many ticks pass as the frequency has hertz, so that nothing is ever rounded.
+#![tactic(auto)]
+
 ghost use Rattle.std.specs.Prelude.{◌≡◌, ◌-◌, ◌*◌, ◌≤◌};
 ghost use Rattle.laws.specs.Lists.{numbers};
 ghost use Rattle.code.specs.Limits.{most_pairs};
@@ -9,20 +11,20 @@ ghost use Rattle.pace.specs.Pace.{SoundPace, WideCount, periods, ticks, started,
 use code::Code;
 
 // A number of carrier periods.
-#[derive(Drop)]
+#[derive(Clone, Copy)]
 pub struct Periods(pub u32);
 
 // A number of microseconds.
-#[derive(Drop)]
+#[derive(Clone, Copy)]
 pub struct Micros(pub u64);
 
 // A number of millionths of a carrier period.
-#[derive(Drop)]
+#[derive(Clone, Copy)]
 pub struct Ticks(pub u64);
 
 // A transmission of a number of copies in all: the pairs before the offset, and then, for each copy, those from it on. How far it
 // is counts from its start, less the copies that a renewal has taken off.
-#[derive(Drop)]
+#[derive(Clone, Copy)]
 pub struct Pace {
     pub lead: Periods,
     pub tail: Periods,
@@ -31,7 +33,7 @@ pub struct Pace {
 }
 
 // What a wait makes of a transmission: it runs on, or it is complete at a moment from the wait's start.
-#[derive(Drop)]
+#[derive(Clone, Copy)]
 pub enum Passed {
     Running(Pace),
     Complete(Micros),

@@ -14,7 +14,7 @@ use pace::Micros;
 use server::{Due, Server};
 
 // The server after an event, and the place behind its frames.
-#[derive(Drop)]
+#[derive(Clone, Copy)]
 pub struct Done {
     pub server: Server,
     pub end: usize,

@@ -1,5 +1,7 @@
 // The port's program: a server on standard input and output, in frames (docs/PORT.md). It reads what there is, in blocks, and writes every answer
 // to that before it reads again.
+#![tactic(auto)]
+
 ghost use Rattle.std.specs.Prelude.{◌≡◌, ◌≤◌, length};
 ghost use Rattle.server.specs.Record.{all_buffers};
 ghost use Rattle.port.specs.Turn.{SoundState, whole};
@@ -17,7 +19,7 @@ mod turn;
 const TURN_ROOM: usize = 512;
 
 // The state after some turns, the place of the block where they stopped, and how many bytes are to be written.
-#[derive(Drop)]
+#[derive(Clone, Copy)]
 pub struct Progress {
     pub state: State,
     pub used: usize,

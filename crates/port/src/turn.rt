@@ -11,7 +11,7 @@ use output::{put_answer, put_change};
 use reply::Reply;
 use server::Server;
 
-#[derive(Drop)]
+#[derive(Clone, Copy)]
 pub struct State {
     pub server: Server,
     pub frame: Frame,
@@ -29,7 +29,7 @@ impl State {
 }
 
 // The state after a turn, how many bytes it used, and the place behind its frames.
-#[derive(Drop)]
+#[derive(Clone, Copy)]
 pub struct Turned {
     pub state: State,
     pub used: usize,

@@ -1,4 +1,6 @@
 // A reader of a code's text. It holds the text and a place, and hands out one pair at a time: the pairs before a fault, and then the fault.
+#![tactic(auto)]
+
 ghost use Rattle.std.specs.Prelude.{◌≡◌, ◌<◌, get_or};
 ghost use Rattle.words.specs.Pairs.{pair};
 ghost use Rattle.code.specs.Limits.{most_pairs};
@@ -9,14 +11,14 @@ use code::letters::Letters;
 use code::next::{After, Next};
 use words::Pair;
 
-#[derive(Drop)]
+#[derive(Clone, Copy)]
 pub struct CodeText<'a> {
     pub text: &'a [u8],
     pub at: usize,
 }
 
 // What was read before the place: how many pairs, those that have a letter, and how the last one was written.
-#[derive(Drop)]
+#[derive(Clone, Copy)]
 pub struct Progress {
     pub freq: u64,
     pub count: usize,
@@ -24,7 +26,7 @@ pub struct Progress {
     pub after: After,
 }
 
-#[derive(Drop)]
+#[derive(Clone, Copy)]
 pub enum Piece {
     End,
     Pair(Pair),
@@ -32,7 +34,7 @@ pub enum Piece {
 }
 
 // A piece, and the place and the progress behind it.
-#[derive(Drop)]
+#[derive(Clone, Copy)]
 pub struct Handed {
     pub at: usize,
     pub piece: Piece,

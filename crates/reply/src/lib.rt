@@ -1,4 +1,6 @@
 // The replies of the hub and the bytes of each, ended by CR.
+#![tactic(auto)]
+
 ghost use Rattle.std.specs.Prelude.{◌≡◌, ◌++◌, ◌+◌, ◌≤◌, length};
 ghost use Rattle.laws.specs.Put.{Put};
 ghost use Rattle.laws.specs.Bytes.{bytes};
@@ -10,7 +12,7 @@ use request::mode::Mode;
 use request::{Fixed, Place};
 use text::write::{put_number, put_word};
 
-#[derive(Drop)]
+#[derive(Clone, Copy)]
 pub enum Reply {
     Fixed(Fixed),
     // ERR_m:p,nnn

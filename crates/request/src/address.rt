@@ -9,14 +9,14 @@ use text::field::ends_field;
 use text::number::{Number, is_digit};
 
 // A place and where the field ends, or none.
-#[derive(Drop)]
+#[derive(Clone, Copy)]
 pub enum Address {
     Bad,
     At(Place, usize),
 }
 
 // One part of an address, the module or the port: the number that its digits count as and the place behind them, or no digit.
-#[derive(Drop)]
+#[derive(Clone, Copy)]
 enum Part {
     Missing,
     Digits(u64, usize),

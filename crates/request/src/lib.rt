@@ -1,11 +1,13 @@
 // A line of bytes read into one request, or into its first fault that does not depend on the hub's state.
+#![tactic(auto)]
+
 ghost use Rattle.std.specs.Prelude.{◌≡◌};
 ghost use Rattle.request.specs.Place.{connector_in, nowhere};
 
 use crate::mode::Mode;
 
 // Where a request goes: a module and a port of it.
-#[derive(Drop)]
+#[derive(Clone, Copy)]
 pub struct Place {
     pub m: u64,
     pub port: u64,
@@ -43,7 +45,7 @@ impl Place {
 }
 
 // A request without an address: its reply is always the same.
-#[derive(Drop)]
+#[derive(Clone, Copy)]
 pub enum Fixed {
     Devices,
     Version,
@@ -51,7 +53,7 @@ pub enum Fixed {
 
 // What is asked of a connector; a sendir's fields begin at a place of the line. Behind a lamp's request there may be more: that is 017, but only
 // where the connector is a lamp.
-#[derive(Drop)]
+#[derive(Clone, Copy)]
 pub enum Ask {
     SetMode(Mode),
     GetMode,
@@ -70,14 +72,14 @@ impl Ask {
 }
 
 // What is asked of a relay.
-#[derive(Drop)]
+#[derive(Clone, Copy)]
 pub enum Turn {
     Set(u64),
     Get,
 }
 
 // What a line is: a request of document 01's table, or a fault with its number and the place that it names.
-#[derive(Drop)]
+#[derive(Clone, Copy)]
 pub enum Request {
     Fault { number: u64, place: Place },
     Fixed(Fixed),

@@ -2,7 +2,7 @@
 ghost use Rattle.std.specs.Prelude.{◌≡◌};
 ghost use Rattle.request.specs.Mode.{mode_at, may_have, is_sensor, is_lighting, is_silent, fresh_mode};
 
-#[derive(Drop)]
+#[derive(Clone, Copy)]
 pub enum Mode {
     Ir,
     Sensor,
@@ -11,7 +11,7 @@ pub enum Mode {
 }
 
 // A mode and the place where its field ends, or none.
-#[derive(Drop)]
+#[derive(Clone, Copy)]
 pub enum ModeRead {
     Unknown,
     Known(Mode, usize),

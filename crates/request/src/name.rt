@@ -7,7 +7,7 @@ use crate::Fixed;
 use text::field::{byte_at, field_is};
 
 // The name of a request that has an address.
-#[derive(Drop)]
+#[derive(Clone, Copy)]
 pub enum Name {
     SetIr,
     GetIr,
@@ -19,13 +19,13 @@ pub enum Name {
     GetLamp,
 }
 
-#[derive(Drop)]
+#[derive(Clone, Copy)]
 pub enum Word {
     Alone(Fixed),
     Named(Name),
 }
 
-#[derive(Drop)]
+#[derive(Clone, Copy)]
 pub enum WordRead {
     Unknown,
     Known(Word),

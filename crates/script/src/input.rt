@@ -5,7 +5,7 @@ ghost use Rattle.script.specs.Input.{input_of, figures_of, reading_in, call_in};
 use crate::parts;
 
 // What a line asks for: a request that begins at a place, a reading, a closing, a wait, or it is of another form.
-#[derive(Drop)]
+#[derive(Clone, Copy)]
 pub enum Input {
     Other,
     Line(u64, usize),
@@ -15,7 +15,7 @@ pub enum Input {
 }
 
 // A number, or none.
-#[derive(Drop)]
+#[derive(Clone, Copy)]
 pub enum Figures {
     Bad,
     Good(u64),

@@ -1,4 +1,6 @@
 // The bench's script: what a line of it asks for, and a line done, with all that is printed.
+#![tactic(auto)]
+
 pub mod input;
 mod output;
 mod parts;

@@ -16,14 +16,14 @@ use reply::Reply;
 use request::Fixed;
 
 // How many bytes are to be written, and what changes of the hub.
-#[derive(Drop)]
+#[derive(Clone, Copy)]
 pub struct Changed {
     pub used: usize,
     pub change: HubChange,
 }
 
 // The same with the whole hub.
-#[derive(Drop)]
+#[derive(Clone, Copy)]
 pub struct Passed {
     pub used: usize,
     pub hub: Hub,

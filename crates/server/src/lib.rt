@@ -1,6 +1,8 @@
 // The server: a hub and its eight connections, each with an assembler, served by events: a piece of a connection's stream, a closed
 // connection, a contact reading, a wait. The record is small and goes by value; the counts of what is sent stand in the lent store, and the
 // unfinished lines in one lent array, a part of 4,096 bytes for each connection.
+#![tactic(auto)]
+
 ghost use Rattle.std.specs.Prelude.{◌≡◌, length};
 ghost use Rattle.hub.specs.Calls.{carriers_of, levels_of};
 ghost use Rattle.server.specs.Record.{fresh_server, SoundServer};
@@ -12,7 +14,7 @@ use lines::Assembler;
 use pace::Micros;
 use reply::Reply;
 
-#[derive(Drop)]
+#[derive(Clone, Copy)]
 pub struct Server {
     pub hub: Hub,
     pub assemblers: [Assembler; Server::CONNECTIONS],
@@ -20,7 +22,7 @@ pub struct Server {
 
 // What a piece is answered: the server after it, how many bytes of it were used, the answer to the line that they end (taken, where they
 // end none), what that changed of the hub, and how many bytes stand in the reply buffer.
-#[derive(Drop)]
+#[derive(Clone, Copy)]
 pub struct PieceServed {
     pub server: Server,
     pub used: usize,
@@ -30,14 +32,14 @@ pub struct PieceServed {
 }
 
 // What a closing or a reading is answered.
-#[derive(Drop)]
+#[derive(Clone, Copy)]
 pub struct Served {
     pub server: Server,
     pub answer: Answer,
 }
 
 // The same for a wait, with its completions.
-#[derive(Drop)]
+#[derive(Clone, Copy)]
 pub struct WaitServed {
     pub server: Server,
     pub answer: Answer,
@@ -45,7 +47,7 @@ pub struct WaitServed {
 }
 
 // When the next completion is due: not within the longest wait, or in so many microseconds.
-#[derive(Drop)]
+#[derive(Clone, Copy)]
 pub enum Due {
     Nothing,
     In(Micros),

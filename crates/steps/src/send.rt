@@ -16,7 +16,7 @@ use request::Place;
 use words::Fields;
 
 // What becomes of a sendir that has no fault.
-#[derive(Drop)]
+#[derive(Clone, Copy)]
 pub enum Verdict {
     Start,
     Renew,

@@ -1,5 +1,7 @@
 // The pairs that a connector transmits, in lent memory of its own, on and off counts in turn. What stands behind the pairs that are being
 // sent, or in the memory of an idle connector, means nothing.
+#![tactic(auto)]
+
 ghost use Rattle.std.specs.Prelude.{◌≡◌, true, ◌*◌, ◌≤◌, length};
 ghost use Rattle.code.specs.Limits.{most_pairs, most_counts};
 ghost use Rattle.laws.specs.Put.{stored_in};

@@ -5,7 +5,7 @@ ghost use Rattle.text.specs.Field.{ends_field, after_comma, field_is, field_with
 use crate::number::Number;
 
 // A field that is a number within limits and the place where it ends, or none.
-#[derive(Drop)]
+#[derive(Clone, Copy)]
 pub enum Field {
     Bad,
     Good(u64, usize),

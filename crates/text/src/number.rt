@@ -4,7 +4,7 @@ ghost use Rattle.words.specs.Digits.{is_digit};
 ghost use Rattle.text.specs.Number.{grown, found_number, number_at};
 
 // What stands at a place: no digit, a run of too many, or a number, the latter two with the place behind them.
-#[derive(Drop)]
+#[derive(Clone, Copy)]
 pub enum Number {
     Missing,
     TooLong(usize),

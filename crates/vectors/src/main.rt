@@ -1,5 +1,7 @@
 // Runs worked values of documents 01 and 02, those that are too long to be proved, and cases of their rules, and prints each with what
 // was expected.
+#![tactic(auto)]
+
 use code::Code;
 use code::limits::Smallest;
 use command::given::{Command, Given};

@@ -10,7 +10,7 @@ use command::read::CommandRead;
 use words::Fields;
 
 // The length of the line that was written, or a refusal.
-#[derive(Drop)]
+#[derive(Clone, Copy)]
 pub enum Written {
     Refused(u64),
     Line(usize),

@@ -1,0 +1,15 @@
+use Prim.Native.Nat.{suc, ◌-◌, ◌≤◌}
+use mathlib.Core.Path.{◌≡◌, ◌∙◌}
+use native.Mathlib.Omega.{arith}
+use lib.ListN.{length, drop}
+use Rattle.lines.proofs.Taking.{step_from, refused, from_start, at_byte, at_cr, at_end_law, counted_most, takes}
+use borrow.Author.Rules.{rules}
+use Rattle.lines.proofs.Assembler.take.Given as goal
+
+abbrev pub invariant-loop-i : goal.invariant-loop-i
+invariant-loop-i l =
+    (l.i ≤ length l.piece) × (l.size ≤ 4097) × (length l.buf ≡ 4096)
+    × (step_from 0 l.initial.size l.initial.buf l.piece ≡ step_from l.i l.size l.buf (drop l.i l.piece))
+
+abbrev pub decreases-loop-i : goal.decreases-loop-i
+decreases-loop-i l = length l.piece - l.i

@@ -1,5 +1,3 @@
--- A walk by hand: the borrow is opened, the owner is read, `owner_left` is called and its answer written, and the borrow is closed at the
--- record with that owner and every other field as it was.
 use Prim.Native.Nat.{ℕ, ◌<◌, ◌^◌}
 use mathlib.Core.Path.{◌≡◌, refl, ap}
 use mathlib.Core.List.{[], ◌∷◌, List}
@@ -36,7 +34,6 @@ use denote.Struct.Laws as LL
 use denote.Enum.Laws as EL
 use denote.Triple.Entry.{on_entry}
 use denote.Triple.Spec.{Meets, triple_of}
-use denote.Triple.Statement.{Contract, Triple}
 use denote.Triple.Call.{calls_at}
 use denote.Triple.Clauses.{ensured, lasts}
 use denote.Triple.Table.{entered, cited}
@@ -55,8 +52,8 @@ use Rattle.connector.proofs.closing.owner_left.Symbol.{name as #owner-left}
 use Rattle.connector.proofs.closing.owner_left.Met as owner-left-thm
 use Rattle.connector.specs.contracts.closing.disown.Key.{name as #disown}
 use Rattle.connector.specs.contracts.closing.disown as f
-use Rattle.connector.proofs.closing.disown.Statement as stated
 use Rattle.connector.proofs.closing.disown.Code as code
+use Rattle.connector.proofs.closing.disown.Goals as goal
 
 abbrev Arg : Type 0
 Arg = MutBor Connector × (ℕ × Unit {0})
@@ -198,12 +195,3 @@ disown-meets {𝓤 = 𝓤} 𝓛 at_mem run 𝓣 known =
     walk_Meets 𝓛 f.ended stayed (goes 𝓛 at_mem run) (f.clauses 𝓛 at_mem run) (WpFn 𝓤 𝓛.H 𝓣.C 𝓣.Λ code.function)
     (WpFn-mono 𝓤 𝓛.H 𝓛.laws 𝓣 code.function)
     (disown-walks 𝓛 at_mem run 𝓣.C 𝓣.Λ (fm_of 𝓤 𝓛.H 𝓛.laws 𝓣) known)
-
-pub disown-spec : {M : Type 1} → stated.statement M
-unfolding code.routine tables_of
-disown-spec 𝓤 𝓛 𝓜 𝓡 =
-    entered 𝓤 𝓛.H (triple_of 𝓛 f.signature (f.spec 𝓛 𝓜.mem 𝓡.run))
-    (tables 𝓤 𝓛.H 𝓜 𝓡 code.env).C (tables 𝓤 𝓛.H 𝓜 𝓡 code.env).Λ #disown code.function (code.unfolded 𝓤 𝓛.H 𝓜 𝓡)
-    (disown-meets 𝓛 𝓜.mem 𝓡.run (tables_of 𝓤 𝓛.H 𝓜 (tables 𝓤 𝓛.H 𝓜 𝓡 code.env))
-    (cited 𝓤 𝓛.H (OwnerLeft 𝓛 𝓜.mem 𝓡.run) 𝓜 𝓡 code.env #owner-left owner-left-def.routine code.calls-connector::closing::owner-left
-    (owner-left-thm.met 𝓤 𝓛 𝓜 𝓡)))

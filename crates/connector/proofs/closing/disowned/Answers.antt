@@ -1,5 +1,3 @@
--- A walk by hand: the record is copied into a local, the local is lent to `disown` for a lifetime that is made for the call, and comes back
--- at the record that `disown` ensures.
 use Prim.Native.Nat.{ℕ, ◌<◌, ◌^◌}
 use mathlib.Core.Path.{◌≡◌, refl}
 use mathlib.Core.List.{[], ◌∷◌, List}
@@ -35,7 +33,6 @@ use denote.Struct.Steps.{spelt}
 use denote.Struct.Laws as LL
 use denote.Triple.Entry.{on_entry}
 use denote.Triple.Spec.{Meets, triple_of}
-use denote.Triple.Statement.{Contract, Triple}
 use denote.Triple.Call.{calls_at}
 use denote.Triple.Clauses.{ensured, lasts}
 use denote.Triple.Table.{entered, cited}
@@ -51,8 +48,8 @@ use Rattle.connector.proofs.closing.disown.Symbol.{name as #disown}
 use Rattle.connector.proofs.closing.disown.Met as disown-thm
 use Rattle.connector.specs.contracts.closing.disowned.Key.{name as #disowned}
 use Rattle.connector.specs.contracts.closing.disowned as f
-use Rattle.connector.proofs.closing.disowned.Statement as stated
 use Rattle.connector.proofs.closing.disowned.Code as code
+use Rattle.connector.proofs.closing.disowned.Goals as goal
 
 abbrev Arg : Type 0
 Arg = Connector × (ℕ × Unit {0})
@@ -184,12 +181,3 @@ disowned-meets {𝓤 = 𝓤} 𝓛 at_mem run 𝓣 known =
     walk_Meets 𝓛 f.ended stayed (goes 𝓛 at_mem run) (f.clauses 𝓛 at_mem run) (WpFn 𝓤 𝓛.H 𝓣.C 𝓣.Λ code.function)
     (WpFn-mono 𝓤 𝓛.H 𝓛.laws 𝓣 code.function)
     (disowned-walks 𝓛 at_mem run 𝓣.C 𝓣.Λ (fm_of 𝓤 𝓛.H 𝓛.laws 𝓣) known)
-
-pub disowned-spec : {M : Type 1} → stated.statement M
-unfolding code.routine tables_of
-disowned-spec 𝓤 𝓛 𝓜 𝓡 =
-    entered 𝓤 𝓛.H (triple_of 𝓛 f.signature (f.spec 𝓛 𝓜.mem 𝓡.run))
-    (tables 𝓤 𝓛.H 𝓜 𝓡 code.env).C (tables 𝓤 𝓛.H 𝓜 𝓡 code.env).Λ #disowned code.function (code.unfolded 𝓤 𝓛.H 𝓜 𝓡)
-    (disowned-meets 𝓛 𝓜.mem 𝓡.run (tables_of 𝓤 𝓛.H 𝓜 (tables 𝓤 𝓛.H 𝓜 𝓡 code.env))
-    (cited 𝓤 𝓛.H (Disown 𝓛 𝓜.mem 𝓡.run) 𝓜 𝓡 code.env #disown disown-def.routine code.calls-connector::closing::disown
-    (disown-thm.met 𝓤 𝓛 𝓜 𝓡)))

@@ -1,5 +1,5 @@
 -- A contact is answered with its last reading, and 028 where there is none; a relay with its last switching.
-use Prim.Native.Nat.{ℕ, ◌+◌, ◌≤◌, ◌<◌}
+use Prim.Native.Nat.{ℕ, ◌≤◌, ◌<◌}
 use mathlib.Core.Path.{◌≡◌, refl, sym, ap, ◌∙◌}
 use mathlib.Core.Bool.{Bool, true, false, cond, not}
 use mathlib.Core.List.{List, [], ◌∷◌, ◌++◌, append-nil, append_assoc}
@@ -10,7 +10,7 @@ use lib.Dec.{eqb}
 use lib.ListN.{length}
 use Rattle.laws.specs.Bytes.{bytes}
 use Rattle.laws.specs.Checks.{first, is_some}
-use Rattle.laws.specs.Lists.{all, same, cut}
+use Rattle.laws.specs.Lists.{all, cut}
 use Rattle.laws.proofs.Choice.{clash, by_test, and_left, and_right}
 use Rattle.laws.proofs.Checks.{through, past, first_all}
 use Rattle.laws.proofs.Lists.{all_append}

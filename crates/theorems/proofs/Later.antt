@@ -107,7 +107,7 @@ module _ (a b : List Deed) (q : Alike a b) where
 
     get_ir_same : get_ir a c s ≡ get_ir b c s
     unfolding get_ir
-    get_ir_same = rw q.modes
+    get_ir_same = simp q.modes
 
     setstate_same : setstate a c s ≡ setstate b c s
     unfolding setstate

@@ -202,7 +202,7 @@ module _ (log : List Deed) (connection : ℕ) (s : List ℕ) where
 
     get_ir_row : IsAt f 1 p → cut 44 s ≡ bytes "get_IR" ∷ f ∷ [] → asked log connection s ≡ mode_told log p
     unfolding request get_ir
-    get_ir_row a e = rw (e, a.whole, a.from 1 1 (omega arith) (omega arith), a.module_is, a.port, a.port_is)
+    get_ir_row a e = rw (e, a.whole, a.from 1 1 (omega arith) (omega arith), a.module_is, a.port, a.port_is) (simp (e, a.port_is))
 
     setstate_row : {ds : List ℕ} {state : ℕ} → IsAt f 2 p → Spells ds state → state ≤ 1 → cut 44 s ≡ bytes "setstate" ∷ f ∷ ds ∷ []
         → asked log connection s ≡ relay_set p state

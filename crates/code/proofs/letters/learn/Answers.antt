@@ -8,7 +8,7 @@ use Rattle.code.proofs.letters.learn.Goals as goal
 use Rattle.code.proofs.letters.learn.Goals.{Start}
 
 long : (c : Start) → length c.args.letters.pairs ≡ 15
-long c = sym (length-map c.args.letters.pairs _) ∙ c.well_formed.0.1.1.1.0.1.0.1
+long c = c.well_formed.0.1.1.1.0.1.0.1
 
 pub returns-then-place_of-count : goal.returns-then-place_of-count
 unfolding learnt_letters

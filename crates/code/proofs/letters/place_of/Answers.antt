@@ -9,7 +9,7 @@ use Rattle.code.proofs.letters.place_of.Goals.{Start}
 
 -- there are fifteen places
 long : (c : Start) → length c.args.letters.pairs ≡ 15
-long c = sym (length-map c.args.letters.pairs _) ∙ c.well_formed.0.1.1.1.0.1.0.1
+long c = c.well_formed.0.1.1.1.0.1.0.1
 
 pub loop-j-init : goal.loop-j-init
 loop-j-init c = omega arith

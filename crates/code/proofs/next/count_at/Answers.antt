@@ -20,3 +20,6 @@ returns-then-is_legal c = rw (sym c.number_at.ensures ∙ c.in-Value.is, sym c.i
 pub returns-else-is_legal : goal.returns-else-is_legal
 unfolding count_at
 returns-else-is_legal c = rw (sym c.number_at.ensures ∙ c.in-Value.is, sym c.is_legal.ensures ∙ c.if-is_legal.false)
+
+pub overflow_cast-result : goal.overflow_cast-result
+overflow_cast-result c = omega (arith, (legal_is (sym c.is_legal.ensures ∙ c.if-is_legal.true)).high)

@@ -1,9 +1,9 @@
 use mathlib.Core.Path.{sym, ◌∙◌}
-use mathlib.Core.Logic.{⊎_elim}
 use borrow.Author.Tests.{le-leb, lt-leb, eq-eqb, ne_eqb}
 use Rattle.code.specs.Next.{next_pair}
 use borrow.Author.Rules.{rules}
 use Rattle.code.proofs.next.next_pair.Goals as goal
+use Rattle.code.proofs.next.next_pair.Goals.{in-Nothing, in-Spelling+else-b-ne44, in-Lettering}
 
 pub returns-then-s-at : goal.returns-then-s-at
 unfolding next_pair
@@ -23,9 +23,8 @@ unfolding next_pair
 returns c =
     let past = lt-leb _ _ c.if-s-at.false in
     let other = sym c.is_letter.ensures ∙ c.if-is_letter.false in
-    ⊎_elim
-    (λ w. rw (past, other, w.1.given.1) (rw w.2 at c.begun_at.ensures))
-    (⊎_elim
-    (λ w. rw (past, other, w.1.given.1, eq-eqb _ _ w.2.left) (rw w.3 at c.begun_at.ensures))
-    (λ w. rw (past, other, w.1.given.1) (rw w.2 at c.begun_at.ensures)))
-    c.match-after.branch
+    elim c.match-after.branch [
+      in-Nothing w ↦ rw (past, other, w.in-Nothing.is) (rw w.begin-is at c.begun_at.ensures)
+    | in-Spelling+else-b-ne44 w ↦ rw (past, other, w.in-Spelling.is, eq-eqb _ _ w.if-b-ne44.false) (rw w.begin-is at c.begun_at.ensures)
+    | in-Lettering w ↦ rw (past, other, w.in-Lettering.is) (rw w.begin-is at c.begun_at.ensures)
+    ]

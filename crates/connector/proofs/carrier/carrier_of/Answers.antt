@@ -15,7 +15,6 @@ carrier-requires c =
 
 pub returns-in-Running : goal.returns-in-Running
 returns-in-Running c =
-    let running = c.sending-1.given in
-    let s = rw running.1 at c.requires.0 in
-    let room : 2 * running.0.0.count ≤ length c.args.kept.now = omega (arith, s.few, c.requires.1) in
-    rw (running.1, c.carrier.ensures, c.place-place.ensures, counts_first _ _ room)
+    let s = rw c.in-Running.is at c.requires.0 in
+    let room : 2 * c.in-Running.run'.count ≤ length c.args.kept.now = omega (arith, s.few, c.requires.1) in
+    rw (c.in-Running.is, c.carrier.ensures, c.place-place.ensures, counts_first _ _ room)

@@ -7,19 +7,20 @@ ghost use Rattle.hub.specs.Record.{SoundHub};
 
 use crate::state::{Begun, State};
 use hub::{Hub, HubChange, Store};
-use libc::{STDIN_FILENO, STDOUT_FILENO};
 use script::input::Input;
 use script::turn;
+use std::io;
+use std::io::Read;
 
 mod output;
 mod scan;
 mod state;
 
-fn flushed(state: State, out: &[u8]) -> State
+fn flushed(rt: &impl Print, state: State, out: &[u8]) -> State
     requires { SoundHub state.hub }
     ensures { SoundHub result.hub }
 {
-    output::flush(out, state.used);
+    output::flush(rt, out, state.used);
     let mut next = state;
     next.used = 0;
     next
@@ -73,7 +74,14 @@ fn line_of<'a>(begun: Begun, part: &'a [u8], line: &'a [u8]) -> &'a [u8] {
 }
 
 // The bytes of a block. The hub is changed in its place, and not copied for a line.
-fn fed(state: State, store: &mut Store, line: &mut [u8], out: &mut [u8], block: &[u8]) -> State
+fn fed(
+    rt: &impl Print,
+    state: State,
+    store: &mut Store,
+    line: &mut [u8],
+    out: &mut [u8],
+    block: &[u8],
+) -> State
     requires { SoundHub state.hub × (1024 ≤ length out.old) }
     ensures { SoundHub result.hub }
 {
@@ -91,7 +99,7 @@ fn fed(state: State, store: &mut Store, line: &mut [u8], out: &mut [u8], block: 
         let next = end + 1;
         let all = ended(begun, line, part);
         let text = line_of(all, part, line);
-        let from = output::with_room(out, used);
+        let from = output::with_room(rt, out, used);
         begun = Begun::nothing();
         match script::input::input_of(text) {
             Input::Other => {
@@ -141,39 +149,40 @@ fn fed(state: State, store: &mut Store, line: &mut [u8], out: &mut [u8], block: 
 }
 
 // Bytes after the last LF are a line of another form.
-fn end(state: State) {
+fn end(rt: &impl Print, state: State) {
     if state.begun.size != 0 {
-        io::write_all(STDOUT_FILENO, b"!\n");
+        let _ = rt.write_all(b"!\n");
     }
 }
 
 // Reads and answers until the input ends. A proved loop has to end, and nothing says that an input does: so it counts its turns
-// down from a number that no run uses up.
-fn run() {
+// up to a number that no run reaches.
+fn run(rt: &(impl io::Input + Print)) -> io::Result<()> {
+    let mut input = rt.reader();
     let mut store = [0u16; Hub::COUNTS];
     let mut line = [0u8; Begun::MOST_BYTES];
     let mut out = [0u8; 65536];
     let mut block = [0u8; 65536];
     let mut state = State::fresh();
-    let mut turns = u64::MAX;
-    while turns > 0 {
-        let got = libc::read(STDIN_FILENO, &mut block);
-        let count = io::count(got, &block);
+    for _ in 0..u64::MAX {
+        let count = input.read(&mut block)?;
         if count == 0 {
-            return end(state);
+            end(rt, state);
+            break;
         }
         let next = fed(
+            rt,
             state,
             &mut store,
             &mut line,
             &mut out,
             scan::front(&block, count),
         );
-        state = flushed(next, &out);
-        turns -= 1;
+        state = flushed(rt, next, &out);
     }
+    Ok(())
 }
 
-fn main() {
-    run();
+fn main(rt: HostRuntime) -> io::Result<()> {
+    run(&rt)
 }

@@ -2,14 +2,14 @@
 ghost use Rattle.std.specs.Prelude.{◌+◌, ◌≤◌, length};
 
 use crate::scan;
-use libc::STDOUT_FILENO;
 
-pub fn flush(out: &[u8], used: usize) {
-    io::write_all(STDOUT_FILENO, scan::front(out, used));
+// What cannot be written is let go, as where it went nobody reads.
+pub fn flush(rt: &impl Print, out: &[u8], used: usize) {
+    let _ = rt.write_all(scan::front(out, used));
 }
 
 // Where the next turn begins to print: there is room for all that it can say, or it is made.
-pub fn with_room(out: &[u8], used: usize) -> usize
+pub fn with_room(rt: &impl Print, out: &[u8], used: usize) -> usize
     requires { 1024 ≤ length out.now }
     ensures { result + 1024 ≤ length out.now }
 {
@@ -18,6 +18,6 @@ pub fn with_room(out: &[u8], used: usize) -> usize
             return used;
         }
     }
-    flush(out, used);
+    flush(rt, out, used);
     0
 }

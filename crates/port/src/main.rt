@@ -9,8 +9,9 @@ ghost use Rattle.port.specs.Run.{turn_room, Feeds};
 
 use crate::turn::State;
 use hub::{Hub, Store};
-use libc::{STDIN_FILENO, STDOUT_FILENO};
 use server::Server;
+use std::io;
+use std::io::Read;
 
 mod event;
 mod turn;
@@ -62,8 +63,9 @@ fn fed(
     }
 }
 
-// All of a block: what was written is flushed until nothing of the block is left.
+// All of a block: what was laid is written out until nothing of the block is left. What cannot be written is let go, as where it went nobody reads.
 fn served(
+    rt: &impl Print,
     state: State,
     store: &mut Store,
     buffers: &mut [u8],
@@ -78,33 +80,39 @@ fn served(
     while i < block.len() {
         let fed = fed(next, store, buffers, block, i, out);
         let end = fed.end;
-        io::write_all(STDOUT_FILENO, &out[..end]);
+        let _ = rt.write_all(&out[..end]);
         next = fed.state;
         i = fed.used;
     }
     next
 }
 
-// Reads and serves until the input ends. A proved loop has to end, and nothing says that an input does: so it counts its turns down
-// from a number that no run uses up.
-fn run() {
+// Reads and serves until the input ends. A proved loop has to end, and nothing says that an input does: so it counts its turns up
+// to a number that no run reaches.
+fn run(rt: &(impl Input + Print)) -> io::Result<()> {
+    let mut input = rt.reader();
     let mut store = [0u16; Hub::COUNTS];
     let mut buffers = [0u8; Server::ROOM];
     let mut out = [0u8; 65536];
     let mut block = [0u8; 65536];
     let mut state = State::fresh();
-    let mut turns = u64::MAX;
-    while turns > 0 {
-        let got = libc::read(STDIN_FILENO, &mut block);
-        let count = io::count(got, &block);
+    for _ in 0..u64::MAX {
+        let count = input.read(&mut block)?;
         if count == 0 {
-            return;
+            break;
         }
-        state = served(state, &mut store, &mut buffers, &block[..count], &mut out);
-        turns -= 1;
+        state = served(
+            rt,
+            state,
+            &mut store,
+            &mut buffers,
+            &block[..count],
+            &mut out,
+        );
     }
+    Ok(())
 }
 
-fn main() {
-    run();
+fn main(rt: HostRuntime) -> io::Result<()> {
+    run(&rt)
 }

@@ -3,11 +3,11 @@ use crate::{say, sending};
 use hub::Hub;
 use pace::Micros;
 
-fn say_carrier(on: bool) {
+fn say_carrier(rt: &impl Print, on: bool) {
     if on {
-        say::text(b"on");
+        say::text(rt, b"on");
     } else {
-        say::text(b"off");
+        say::text(rt, b"off");
     }
 }
 
@@ -24,57 +24,57 @@ fn others_off(carriers: [bool; Hub::CONNECTORS]) -> bool {
 }
 
 // Connector 1's carrier is as expected; the others transmit nothing.
-fn carrier_vector(line: &[u8], micros: u64, expected: bool) {
+fn carrier_vector(rt: &impl Print, line: &[u8], micros: u64, expected: bool) {
     let mut store = [0u16; Hub::COUNTS];
     let started = sending::sent(Hub::fresh(), &mut store, line);
     let waited = started.wait(Micros(micros));
     let later = waited.hub;
     let carriers = later.carriers(&store);
     let got = carriers[0];
-    say::text(b"carrier ");
-    say::number(micros);
-    say::text(b" after ");
-    say::text(line);
-    say::text(b": expected ");
-    say_carrier(expected);
-    say::text(b", got ");
-    say_carrier(got);
-    say::verdict(got == expected && others_off(carriers));
+    say::text(rt, b"carrier ");
+    say::number(rt, micros);
+    say::text(rt, b" after ");
+    say::text(rt, line);
+    say::text(rt, b": expected ");
+    say_carrier(rt, expected);
+    say::text(rt, b", got ");
+    say_carrier(rt, got);
+    say::verdict(rt, got == expected && others_off(carriers));
 }
 
 // At 40,000 Hz a period lasts 25 µs: on for 34, off for 48, on for 24, off for 960 periods, and the second copy from the third count on.
-fn whole_periods() {
+fn whole_periods(rt: &impl Print) {
     let line = b"sendir,1:1,7,40000,2,3,34,48,24,960";
-    carrier_vector(line, 0, true);
-    carrier_vector(line, 849, true);
-    carrier_vector(line, 850, false);
-    carrier_vector(line, 2049, false);
-    carrier_vector(line, 2050, true);
-    carrier_vector(line, 2649, true);
-    carrier_vector(line, 2650, false);
-    carrier_vector(line, 26649, false);
-    carrier_vector(line, 26650, true);
-    carrier_vector(line, 27249, true);
-    carrier_vector(line, 27250, false);
-    carrier_vector(line, 51250, false);
+    carrier_vector(rt, line, 0, true);
+    carrier_vector(rt, line, 849, true);
+    carrier_vector(rt, line, 850, false);
+    carrier_vector(rt, line, 2049, false);
+    carrier_vector(rt, line, 2050, true);
+    carrier_vector(rt, line, 2649, true);
+    carrier_vector(rt, line, 2650, false);
+    carrier_vector(rt, line, 26649, false);
+    carrier_vector(rt, line, 26650, true);
+    carrier_vector(rt, line, 27249, true);
+    carrier_vector(rt, line, 27250, false);
+    carrier_vector(rt, line, 51250, false);
 }
 
 // At 38,000 Hz four periods last 105 5/19 µs: the edges lie at 105.26, 210.53, 315.79 and 421.05 µs.
-fn broken_periods() {
+fn broken_periods(rt: &impl Print) {
     let line = b"sendir,1:1,7,38000,2,1,4,4";
-    carrier_vector(line, 105, true);
-    carrier_vector(line, 106, false);
-    carrier_vector(line, 210, false);
-    carrier_vector(line, 211, true);
-    carrier_vector(line, 315, true);
-    carrier_vector(line, 316, false);
-    carrier_vector(line, 421, false);
-    carrier_vector(line, 422, false);
+    carrier_vector(rt, line, 105, true);
+    carrier_vector(rt, line, 106, false);
+    carrier_vector(rt, line, 210, false);
+    carrier_vector(rt, line, 211, true);
+    carrier_vector(rt, line, 315, true);
+    carrier_vector(rt, line, 316, false);
+    carrier_vector(rt, line, 421, false);
+    carrier_vector(rt, line, 422, false);
 }
 
-pub fn vectors() {
-    whole_periods();
-    broken_periods();
+pub fn vectors(rt: &impl Print) {
+    whole_periods(rt);
+    broken_periods(rt);
     // nothing is transmitted
-    carrier_vector(b"getversion", 0, false);
+    carrier_vector(rt, b"getversion", 0, false);
 }

@@ -24,47 +24,50 @@ fn dark() -> Hub
 }
 
 // The level and the reply of the lamp are as expected; the other connectors have none.
-fn lamp_vector(hub: Hub, line: &[u8], micros: u64, level: u64, reply: &[u8])
+fn lamp_vector(rt: &impl Print, hub: Hub, line: &[u8], micros: u64, level: u64, reply: &[u8])
     requires { SoundHub hub }
 {
     let later = later(hub, line, micros);
     let levels = later.levels();
-    say::text(b"lamp ");
-    say::number(micros);
-    say::text(b" after ");
-    say::text(line);
-    say::text(b": expected level ");
-    say::number(level);
-    say::text(b", got ");
-    say::number(levels[0]);
-    say::text(b"; ");
-    let replied = sending::replies(later, b"get_LED_LIGHTING,1:1", reply);
-    say::verdict(replied && levels[0] == level && levels[1] == 0 && levels[2] == 0);
+    say::text(rt, b"lamp ");
+    say::number(rt, micros);
+    say::text(rt, b" after ");
+    say::text(rt, line);
+    say::text(rt, b": expected level ");
+    say::number(rt, level);
+    say::text(rt, b", got ");
+    say::number(rt, levels[0]);
+    say::text(rt, b"; ");
+    let replied = sending::replies(rt, later, b"get_LED_LIGHTING,1:1", reply);
+    say::verdict(
+        rt,
+        replied && levels[0] == level && levels[1] == 0 && levels[2] == 0,
+    );
 }
 
 // Ramp 3 moves 3 percent in each 100,000 µs, exactly: 4 percent lie at 133,333 1/3 µs, and 100 at 3,333,333 1/3.
-fn rising(dark: Hub, line: &[u8])
+fn rising(rt: &impl Print, dark: Hub, line: &[u8])
     requires { SoundHub dark }
 {
-    lamp_vector(dark, line, 0, 0, b"LED_LIGHTING,1:1,0,100");
-    lamp_vector(dark, line, 100000, 3, b"LED_LIGHTING,1:1,3,100");
-    lamp_vector(dark, line, 133333, 3, b"LED_LIGHTING,1:1,3,100");
-    lamp_vector(dark, line, 133334, 4, b"LED_LIGHTING,1:1,4,100");
-    lamp_vector(dark, line, 3333333, 99, b"LED_LIGHTING,1:1,99,100");
-    lamp_vector(dark, line, 3333334, 100, b"LED_LIGHTING,1:1,100,100");
+    lamp_vector(rt, dark, line, 0, 0, b"LED_LIGHTING,1:1,0,100");
+    lamp_vector(rt, dark, line, 100000, 3, b"LED_LIGHTING,1:1,3,100");
+    lamp_vector(rt, dark, line, 133333, 3, b"LED_LIGHTING,1:1,3,100");
+    lamp_vector(rt, dark, line, 133334, 4, b"LED_LIGHTING,1:1,4,100");
+    lamp_vector(rt, dark, line, 3333333, 99, b"LED_LIGHTING,1:1,99,100");
+    lamp_vector(rt, dark, line, 3333334, 100, b"LED_LIGHTING,1:1,100,100");
 }
 
 // A falling level is rounded down too, and a new target starts from the exact level, 3.99999 percent.
-pub fn vectors() {
+pub fn vectors(rt: &impl Print) {
     let up = b"set_LED_LIGHTING,1:1,100,3";
     let dark = dark();
-    rising(dark, up);
+    rising(rt, dark, up);
     let full = later(dark, b"set_LED_LIGHTING,1:1,100,0", 0);
     let down = b"set_LED_LIGHTING,1:1,1,10";
-    lamp_vector(full, down, 1, 99, b"LED_LIGHTING,1:1,99,1");
-    lamp_vector(full, down, 990000, 1, b"LED_LIGHTING,1:1,1,1");
+    lamp_vector(rt, full, down, 1, 99, b"LED_LIGHTING,1:1,99,1");
+    lamp_vector(rt, full, down, 990000, 1, b"LED_LIGHTING,1:1,1,1");
     let begun = later(dark, up, 133333);
     let turned = b"set_LED_LIGHTING,1:1,1,1";
-    lamp_vector(begun, turned, 99999, 3, b"LED_LIGHTING,1:1,3,1");
-    lamp_vector(begun, turned, 100000, 2, b"LED_LIGHTING,1:1,2,1");
+    lamp_vector(rt, begun, turned, 99999, 3, b"LED_LIGHTING,1:1,3,1");
+    lamp_vector(rt, begun, turned, 100000, 2, b"LED_LIGHTING,1:1,2,1");
 }

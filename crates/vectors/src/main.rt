@@ -19,15 +19,15 @@ mod renewals;
 mod say;
 mod sending;
 
-fn say_read(read: Code) {
+fn say_read(rt: &impl Print, read: Code) {
     match read {
         Code::Fault(number) => {
-            say::text(b"fault ");
-            say::number(number);
+            say::text(rt, b"fault ");
+            say::number(rt, number);
         }
         Code::Pairs(count) => {
-            say::text(b"pairs ");
-            say::number(count as u64);
+            say::text(rt, b"pairs ");
+            say::number(rt, count as u64);
         }
     }
 }
@@ -46,58 +46,58 @@ fn same_read(a: Code, b: Code) -> bool {
 }
 
 // A code's text, at 40000 Hz.
-fn code_vector(label: &[u8], text: &[u8], expected: Code) {
+fn code_vector(rt: &impl Print, label: &[u8], text: &[u8], expected: Code) {
     let mut counts = [0u16; Code::MOST_COUNTS];
     let got = decoder::read::read_code(40000, text, 0, &mut counts);
-    say::text(b"code ");
-    say::text(label);
-    say::text(b": expected ");
-    say_read(expected);
-    say::text(b", got ");
-    say_read(got);
-    say::verdict(same_read(expected, got));
+    say::text(rt, b"code ");
+    say::text(rt, label);
+    say::text(rt, b": expected ");
+    say_read(rt, expected);
+    say::text(rt, b", got ");
+    say_read(rt, got);
+    say::verdict(rt, same_read(expected, got));
 }
 
-fn short_fault(text: &[u8], number: u64) {
-    code_vector(text, text, Code::Fault(number));
+fn short_fault(rt: &impl Print, text: &[u8], number: u64) {
+    code_vector(rt, text, text, Code::Fault(number));
 }
 
-fn short_pairs(text: &[u8], count: usize) {
-    code_vector(text, text, Code::Pairs(count));
+fn short_pairs(rt: &impl Print, text: &[u8], count: usize) {
+    code_vector(rt, text, text, Code::Pairs(count));
 }
 
 // Document 01's faults of a code, first from the left.
-fn faults() {
-    short_fault(b"", 9);
-    short_fault(b"A", 22);
-    short_fault(b"B", 22);
-    short_fault(b"4,5B", 22);
-    short_fault(b"4,5Z", 22);
-    short_fault(b"4A", 21);
-    short_fault(b"4,A", 21);
-    short_fault(b"4,5A4,Z", 21);
-    short_fault(b"4", 10);
-    short_fault(b"4,5,8", 10);
-    short_fault(b"4,", 9);
-    short_fault(b"4,5,", 9);
-    short_fault(b"4,5,8,", 9);
-    short_fault(b"4,5A,8,9", 9);
-    short_fault(b"4,5,A", 9);
-    short_fault(b"4,5,a", 9);
-    short_fault(b"2A", 9);
-    short_fault(b"3", 9);
-    short_fault(b"3,5", 9);
-    short_fault(b"4,3", 9);
-    short_fault(b"4,50001", 9);
-    short_fault(b"0000004,5", 9);
+fn faults(rt: &impl Print) {
+    short_fault(rt, b"", 9);
+    short_fault(rt, b"A", 22);
+    short_fault(rt, b"B", 22);
+    short_fault(rt, b"4,5B", 22);
+    short_fault(rt, b"4,5Z", 22);
+    short_fault(rt, b"4A", 21);
+    short_fault(rt, b"4,A", 21);
+    short_fault(rt, b"4,5A4,Z", 21);
+    short_fault(rt, b"4", 10);
+    short_fault(rt, b"4,5,8", 10);
+    short_fault(rt, b"4,", 9);
+    short_fault(rt, b"4,5,", 9);
+    short_fault(rt, b"4,5,8,", 9);
+    short_fault(rt, b"4,5A,8,9", 9);
+    short_fault(rt, b"4,5,A", 9);
+    short_fault(rt, b"4,5,a", 9);
+    short_fault(rt, b"2A", 9);
+    short_fault(rt, b"3", 9);
+    short_fault(rt, b"3,5", 9);
+    short_fault(rt, b"4,3", 9);
+    short_fault(rt, b"4,50001", 9);
+    short_fault(rt, b"0000004,5", 9);
 }
 
-fn accepted() {
-    short_pairs(b"4,5", 1);
-    short_pairs(b"0004,000005", 1);
-    short_pairs(b"4,50000", 1);
-    short_pairs(b"4,5A8,9ABB", 6);
-    short_pairs(b"4,5,4,5,8,9,4,5,8,9,8,9", 6);
+fn accepted(rt: &impl Print) {
+    short_pairs(rt, b"4,5", 1);
+    short_pairs(rt, b"0004,000005", 1);
+    short_pairs(rt, b"4,50000", 1);
+    short_pairs(rt, b"4,5A8,9ABB", 6);
+    short_pairs(rt, b"4,5,4,5,8,9,4,5,8,9,8,9", 6);
 }
 
 // The first bytes of a long text.
@@ -110,30 +110,31 @@ fn front(text: &[u8], size: usize) -> &[u8] {
 }
 
 // 260 pairs are accepted and 261 are 020, spelled or lettered; a comma behind 260 pairs and no digit is 009.
-fn many_pairs() {
+fn many_pairs(rt: &impl Print) {
     let mut buf = [0u8; 2048];
     fill::fill_spelled(&mut buf);
-    code_vector(b"260 spelled", front(&buf, 1039), Code::Pairs(260));
+    code_vector(rt, b"260 spelled", front(&buf, 1039), Code::Pairs(260));
     code_vector(
+        rt,
         b"260 spelled and a comma",
         front(&buf, 1040),
         Code::Fault(9),
     );
-    code_vector(b"261 spelled", front(&buf, 1043), Code::Fault(20));
+    code_vector(rt, b"261 spelled", front(&buf, 1043), Code::Fault(20));
     fill::fill_lettered(&mut buf);
-    code_vector(b"260 lettered", front(&buf, 262), Code::Pairs(260));
-    code_vector(b"261 lettered", front(&buf, 263), Code::Fault(20));
+    code_vector(rt, b"260 lettered", front(&buf, 262), Code::Pairs(260));
+    code_vector(rt, b"261 lettered", front(&buf, 263), Code::Fault(20));
 }
 
-fn say_form(form: Form) {
+fn say_form(rt: &impl Print, form: Form) {
     match form {
-        Form::Plain => say::text(b"plain "),
-        Form::Lettered => say::text(b"lettered "),
+        Form::Plain => say::text(rt, b"plain "),
+        Form::Lettered => say::text(rt, b"lettered "),
     }
 }
 
 // A command of which only the counts matter, written in a form.
-fn written_vector(form: Form, label: &[u8], counts: &[u64], expected: &[u8]) {
+fn written_vector(rt: &impl Print, form: Form, label: &[u8], counts: &[u64], expected: &[u8]) {
     let mut buf = [0u8; 4096];
     let fields = Given {
         id: 1,
@@ -145,28 +146,29 @@ fn written_vector(form: Form, label: &[u8], counts: &[u64], expected: &[u8]) {
         place: Place::connector(0),
         fields,
     };
-    say_form(form);
-    say::text(label);
-    say::text(b": expected ");
-    say::text(expected);
-    say::text(b", got ");
+    say_form(rt, form);
+    say::text(rt, label);
+    say::text(rt, b": expected ");
+    say::text(rt, expected);
+    say::text(rt, b", got ");
     match writer::sendir::write_sendir(&mut buf, form, command, counts) {
         Written::Refused(number) => {
-            say::number(number);
-            say::verdict(false);
+            say::number(rt, number);
+            say::verdict(rt, false);
         }
         Written::Line(size) => {
-            say::text(front(&buf, size));
-            say::verdict(check::same(front(&buf, size), expected));
+            say::text(rt, front(&buf, size));
+            say::verdict(rt, check::same(front(&buf, size), expected));
         }
     }
 }
 
 // Sixteen distinct pairs, each twice: the sixteenth is spelled both times.
-fn sixteen_pairs() {
+fn sixteen_pairs(rt: &impl Print) {
     let mut counts = [0u64; 64];
     fill::fill_counts(&mut counts, false);
     written_vector(
+        rt,
         Form::Lettered,
         b"sixteen, then again",
         &counts,
@@ -174,6 +176,7 @@ fn sixteen_pairs() {
     );
     fill::fill_counts(&mut counts, true);
     written_vector(
+        rt,
         Form::Lettered,
         b"sixteen, each doubled",
         &counts,
@@ -182,15 +185,17 @@ fn sixteen_pairs() {
 }
 
 // Document 01's six pairs in both forms: all spelled, and each later occurrence of a lettered pair as its letter.
-fn both_forms() {
+fn both_forms(rt: &impl Print) {
     let counts = [4u64, 5, 4, 5, 8, 9, 4, 5, 8, 9, 8, 9];
     written_vector(
+        rt,
         Form::Plain,
         b"six pairs",
         &counts,
         b"sendir,1:1,1,40000,20,1,4,5,4,5,8,9,4,5,8,9,8,9",
     );
     written_vector(
+        rt,
         Form::Lettered,
         b"six pairs",
         &counts,
@@ -198,47 +203,47 @@ fn both_forms() {
     );
 }
 
-fn say_smallest(refused: bool, number: u64) {
+fn say_smallest(rt: &impl Print, refused: bool, number: u64) {
     if refused {
-        say::text(b"refusal ");
+        say::text(rt, b"refusal ");
     }
-    say::number(number);
+    say::number(rt, number);
 }
 
 // The smallest legal count for a frequency, or the number of its refusal.
-fn smallest_vector(freq: u64, refused: bool, expected: u64) {
-    say::text(b"smallest count at ");
-    say::number(freq);
-    say::text(b": expected ");
-    say_smallest(refused, expected);
-    say::text(b", got ");
+fn smallest_vector(rt: &impl Print, freq: u64, refused: bool, expected: u64) {
+    say::text(rt, b"smallest count at ");
+    say::number(rt, freq);
+    say::text(rt, b": expected ");
+    say_smallest(rt, refused, expected);
+    say::text(rt, b", got ");
     match code::limits::smallest_count(freq) {
         Smallest::Refused(number) => {
-            say_smallest(true, number);
-            say::verdict(refused && number == expected);
+            say_smallest(rt, true, number);
+            say::verdict(rt, refused && number == expected);
         }
         Smallest::Count(count) => {
-            say_smallest(false, count);
-            say::verdict(!refused && count == expected);
+            say_smallest(rt, false, count);
+            say::verdict(rt, !refused && count == expected);
         }
     }
 }
 
 // 12,500 counts of it reach the frequency, and it is 4 at least.
-fn smallest_counts() {
-    smallest_vector(14999, true, 5);
-    smallest_vector(15000, false, 4);
-    smallest_vector(40000, false, 4);
-    smallest_vector(48000, false, 4);
-    smallest_vector(50000, false, 4);
-    smallest_vector(50001, false, 5);
-    smallest_vector(60000, false, 5);
-    smallest_vector(62500, false, 5);
-    smallest_vector(62501, false, 6);
-    smallest_vector(487500, false, 39);
-    smallest_vector(487501, false, 40);
-    smallest_vector(500000, false, 40);
-    smallest_vector(500001, true, 5);
+fn smallest_counts(rt: &impl Print) {
+    smallest_vector(rt, 14999, true, 5);
+    smallest_vector(rt, 15000, false, 4);
+    smallest_vector(rt, 40000, false, 4);
+    smallest_vector(rt, 48000, false, 4);
+    smallest_vector(rt, 50000, false, 4);
+    smallest_vector(rt, 50001, false, 5);
+    smallest_vector(rt, 60000, false, 5);
+    smallest_vector(rt, 62500, false, 5);
+    smallest_vector(rt, 62501, false, 6);
+    smallest_vector(rt, 487500, false, 39);
+    smallest_vector(rt, 487501, false, 40);
+    smallest_vector(rt, 500000, false, 40);
+    smallest_vector(rt, 500001, true, 5);
 }
 
 // The fault of the request that a line is read as, 0 where it has none.
@@ -251,52 +256,62 @@ fn fault_of(s: &[u8]) -> u64 {
     }
 }
 
-fn line_vector(label: &[u8], line: &[u8], expected: u64) {
+fn line_vector(rt: &impl Print, label: &[u8], line: &[u8], expected: u64) {
     let got = fault_of(line);
-    say::text(b"line ");
-    say::text(label);
-    say::text(b": expected fault ");
-    say::compared(expected, got);
+    say::text(rt, b"line ");
+    say::text(rt, label);
+    say::text(rt, b": expected fault ");
+    say::compared(rt, expected, got);
 }
 
 // A line of 4,096 bytes is judged on its contents, one of 4,097 is 015.
-fn long_lines() {
+fn long_lines(rt: &impl Print) {
     let mut buf = [b','; 4097];
-    line_vector(b"4,096 commas", front(&buf, 4096), 1);
-    line_vector(b"4,097 commas", front(&buf, 4097), 15);
+    line_vector(rt, b"4,096 commas", front(&buf, 4096), 1);
+    line_vector(rt, b"4,097 commas", front(&buf, 4097), 15);
     fill::put(&mut buf, b"getdevices");
-    line_vector(b"getdevices and commas, 4,096 bytes", front(&buf, 4096), 17);
-    line_vector(b"getdevices and commas, 4,097 bytes", front(&buf, 4097), 15);
-    line_vector(b"getdevices", front(&buf, 10), 0);
+    line_vector(
+        rt,
+        b"getdevices and commas, 4,096 bytes",
+        front(&buf, 4096),
+        17,
+    );
+    line_vector(
+        rt,
+        b"getdevices and commas, 4,097 bytes",
+        front(&buf, 4097),
+        15,
+    );
+    line_vector(rt, b"getdevices", front(&buf, 10), 0);
 }
 
 // What a fresh hub replies to a line.
-fn reply_vector(line: &[u8], expected: &[u8]) {
-    say::text(b"hub ");
-    say::text(line);
-    say::text(b": ");
-    let replied = sending::replies(Hub::fresh(), line, expected);
-    say::verdict(replied);
+fn reply_vector(rt: &impl Print, line: &[u8], expected: &[u8]) {
+    say::text(rt, b"hub ");
+    say::text(rt, line);
+    say::text(rt, b": ");
+    let replied = sending::replies(rt, Hub::fresh(), line, expected);
+    say::verdict(rt, replied);
 }
 
 // Repeats and offsets at their limits: only an offset beyond the code waits for the code.
-fn limits() {
-    reply_vector(b"sendir,1:1,1,40000,0,1,24,48", b"ERR_1:1,006");
-    reply_vector(b"sendir,1:1,1,40000,1,1,24,48", b"");
-    reply_vector(b"sendir,1:1,1,40000,999999,1,24,48", b"");
-    reply_vector(b"sendir,1:1,1,40000,1000000,1,24,48", b"ERR_1:1,006");
-    reply_vector(b"sendir,1:1,1,40000,1,3,24,48", b"ERR_1:1,007");
-    reply_vector(b"sendir,1:1,1,40000,1,3,24,48,24,48", b"");
-    reply_vector(b"sendir,1:1,1,40000,1,385,24,48", b"ERR_1:1,007");
-    reply_vector(b"sendir,1:1,1,40000,1,3,24,48,3", b"ERR_1:1,009");
-    reply_vector(b"sendir,1:1,65535,500000,1,1,40,40", b"");
-    reply_vector(b"sendir,1:1,65536,500000,1,1,40,40", b"ERR_1:1,004");
-    reply_vector(b"sendir,1:1,65535,500001,1,1,40,40", b"ERR_1:1,005");
-    reply_vector(b"sendir,1:1,65535,500000,1,1,40,39", b"ERR_1:1,009");
+fn limits(rt: &impl Print) {
+    reply_vector(rt, b"sendir,1:1,1,40000,0,1,24,48", b"ERR_1:1,006");
+    reply_vector(rt, b"sendir,1:1,1,40000,1,1,24,48", b"");
+    reply_vector(rt, b"sendir,1:1,1,40000,999999,1,24,48", b"");
+    reply_vector(rt, b"sendir,1:1,1,40000,1000000,1,24,48", b"ERR_1:1,006");
+    reply_vector(rt, b"sendir,1:1,1,40000,1,3,24,48", b"ERR_1:1,007");
+    reply_vector(rt, b"sendir,1:1,1,40000,1,3,24,48,24,48", b"");
+    reply_vector(rt, b"sendir,1:1,1,40000,1,385,24,48", b"ERR_1:1,007");
+    reply_vector(rt, b"sendir,1:1,1,40000,1,3,24,48,3", b"ERR_1:1,009");
+    reply_vector(rt, b"sendir,1:1,65535,500000,1,1,40,40", b"");
+    reply_vector(rt, b"sendir,1:1,65536,500000,1,1,40,40", b"ERR_1:1,004");
+    reply_vector(rt, b"sendir,1:1,65535,500001,1,1,40,40", b"ERR_1:1,005");
+    reply_vector(rt, b"sendir,1:1,65535,500000,1,1,40,39", b"ERR_1:1,009");
 }
 
 // A wait of a fresh hub: its refusal, 0 where it is taken.
-fn wait_vector(micros: u64, expected: u64) {
+fn wait_vector(rt: &impl Print, micros: u64, expected: u64) {
     let fresh = Hub::fresh();
     let waited = fresh.wait(Micros(micros));
     let answer = waited.answer;
@@ -305,25 +320,25 @@ fn wait_vector(micros: u64, expected: u64) {
         Answer::Taken => 0,
         Answer::Reply { reply: _, also: _ } => 0,
     };
-    say::text(b"wait ");
-    say::number(micros);
-    say::text(b": expected refusal ");
-    say::compared(expected, got);
+    say::text(rt, b"wait ");
+    say::number(rt, micros);
+    say::text(rt, b": expected refusal ");
+    say::compared(rt, expected, got);
 }
 
-fn main() {
-    faults();
-    accepted();
-    handing::vectors();
-    many_pairs();
-    both_forms();
-    sixteen_pairs();
-    smallest_counts();
-    long_lines();
-    limits();
-    wait_vector(1000000000, 0);
-    wait_vector(1000000001, 103);
-    carriers::vectors();
-    renewals::vectors();
-    lamps::vectors();
+fn main(rt: HostRuntime) {
+    faults(&rt);
+    accepted(&rt);
+    handing::vectors(&rt);
+    many_pairs(&rt);
+    both_forms(&rt);
+    sixteen_pairs(&rt);
+    smallest_counts(&rt);
+    long_lines(&rt);
+    limits(&rt);
+    wait_vector(&rt, 1000000000, 0);
+    wait_vector(&rt, 1000000001, 103);
+    carriers::vectors(&rt);
+    renewals::vectors(&rt);
+    lamps::vectors(&rt);
 }

@@ -12,7 +12,7 @@ fn ended(again: u64, left: u64, expected: u64) -> bool {
 }
 
 // Nothing is complete when it is sent again, and in the end one transmission is.
-fn renewal_vector(line: &[u8], again: u64, expected: u64) {
+fn renewal_vector(rt: &impl Print, line: &[u8], again: u64, expected: u64) {
     let mut store = [0u16; Hub::COUNTS];
     let started = sending::sent(Hub::fresh(), &mut store, line);
     let waited = started.wait(Micros(again));
@@ -21,23 +21,26 @@ fn renewal_vector(line: &[u8], again: u64, expected: u64) {
     let done = renewed.wait(Micros(Hub::MOST_WAIT));
     let behind = done.completions;
     let first = behind.items[0];
-    say::text(b"sent again ");
-    say::number(again);
-    say::text(b" after ");
-    say::text(line);
-    say::text(b": expected complete at ");
-    say::number(expected);
-    say::text(b", got ");
-    say::number(again);
-    say::text(b" + ");
-    say::number(first.moment.0);
-    say::verdict(before.count == 0 && behind.count == 1 && ended(again, first.moment.0, expected));
+    say::text(rt, b"sent again ");
+    say::number(rt, again);
+    say::text(rt, b" after ");
+    say::text(rt, line);
+    say::text(rt, b": expected complete at ");
+    say::number(rt, expected);
+    say::text(rt, b", got ");
+    say::number(rt, again);
+    say::text(rt, b" + ");
+    say::number(rt, first.moment.0);
+    say::verdict(
+        rt,
+        before.count == 0 && behind.count == 1 && ended(again, first.moment.0, expected),
+    );
 }
 
 // The first copy ends at 26,650 µs and each further one lasts 24,600: in the first copy nothing is added, at its end one copy is.
-pub fn vectors() {
+pub fn vectors(rt: &impl Print) {
     let line = b"sendir,1:1,7,40000,2,3,34,48,24,960";
-    renewal_vector(line, 1, 51250);
-    renewal_vector(line, 26649, 51250);
-    renewal_vector(line, 26650, 75850);
+    renewal_vector(rt, line, 1, 51250);
+    renewal_vector(rt, line, 26649, 51250);
+    renewal_vector(rt, line, 26650, 75850);
 }

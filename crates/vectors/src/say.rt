@@ -1,27 +1,26 @@
-// What is printed.
-use libc::STDOUT_FILENO;
+// What is printed. What cannot be written is let go, as where it went nobody reads.
 
-pub fn text(bytes: &[u8]) {
-    io::write_all(STDOUT_FILENO, bytes);
+pub fn text(rt: &impl Print, bytes: &[u8]) {
+    let _ = rt.write_all(bytes);
 }
 
-pub fn number(n: u64) {
-    io::print_decimal(STDOUT_FILENO, n);
+pub fn number(rt: &impl Print, n: u64) {
+    let _ = rt.print(n);
 }
 
 // Whether what was got is what was expected; it ends the line.
-pub fn verdict(ok: bool) {
+pub fn verdict(rt: &impl Print, ok: bool) {
     if ok {
-        text(b": ok\n");
+        text(rt, b": ok\n");
     } else {
-        text(b": FAILS\n");
+        text(rt, b": FAILS\n");
     }
 }
 
 // The number that was expected and the one that was got; it ends the line.
-pub fn compared(expected: u64, got: u64) {
-    number(expected);
-    text(b", got ");
-    number(got);
-    verdict(expected == got);
+pub fn compared(rt: &impl Print, expected: u64, got: u64) {
+    number(rt, expected);
+    text(rt, b", got ");
+    number(rt, got);
+    verdict(rt, expected == got);
 }

@@ -16,7 +16,7 @@ pub fn sent(hub: Hub, store: &mut [u16; Hub::COUNTS], line: &[u8]) -> Hub
 }
 
 // What it replies to a line, without its CR, is printed beside what was expected: nothing where the line is only taken. Whether it is that.
-pub fn replies(hub: Hub, line: &[u8], expected: &[u8]) -> bool
+pub fn replies(rt: &impl Print, hub: Hub, line: &[u8], expected: &[u8]) -> bool
     requires { SoundHub hub }
 {
     let mut store = [0u16; Hub::COUNTS];
@@ -24,10 +24,10 @@ pub fn replies(hub: Hub, line: &[u8], expected: &[u8]) -> bool
     let answered = hub.line(&mut store, 0, line, &mut reply);
     let size = answered.size;
     let shown = if size == 0 { 0 } else { size - 1 };
-    say::text(b"expected <");
-    say::text(expected);
-    say::text(b">, got <");
-    say::text(crate::front(&reply, shown));
-    say::text(b">");
+    say::text(rt, b"expected <");
+    say::text(rt, expected);
+    say::text(rt, b">, got <");
+    say::text(rt, crate::front(&reply, shown));
+    say::text(rt, b">");
     check::same(crate::front(&reply, shown), expected)
 }

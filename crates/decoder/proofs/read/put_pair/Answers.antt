@@ -1,0 +1,6 @@
+use native.Mathlib.Numerals.{add-one}
+use borrow.Author.Rules.{rules}
+use Rattle.decoder.proofs.read.put_pair.Goals as goal
+
+pub returns : goal.returns
+returns c = rw add-one

@@ -1,0 +1,52 @@
+-- `logbook::output::put_word` meets its contract.
+use Prim.Native.Nat.{◌-◌}
+use mathlib.Core.Path.{◌≡◌}
+use lib.ListN.{length}
+use borrow.Author.Rules.{rules}
+use Rattle.log_book.proofs.output.put_word.Statement.{statement}
+use Rattle.log_book.proofs.output.put_word.Tie as tie
+
+abbrev invariant-loop : tie.invariant-loop
+invariant-loop out₀ used w o₀ i₀ out o i = length out ≡ length out₀
+
+abbrev decreases-loop : tie.decreases-loop
+decreases-loop out₀ used w o₀ i₀ out o i = length w - i
+
+loop-holds : tie.Need-loop-init invariant-loop decreases-loop
+loop-holds c = search rules
+
+shared-slice-read-put-byte : tie.Need-shared-slice-read-put-byte invariant-loop decreases-loop
+shared-slice-read-put-byte c = search rules
+
+put-byte-requires : tie.Need-put-byte-requires invariant-loop decreases-loop
+put-byte-requires c κs = search rules
+
+add-i : tie.Need-overflow-add-i invariant-loop decreases-loop
+add-i c = search rules
+
+loop-less : tie.Need-loop-smaller invariant-loop decreases-loop
+loop-less c = search rules
+
+loop-again : tie.Need-loop-preserved invariant-loop decreases-loop
+loop-again c = search rules
+
+same_length : tie.Need-same-length invariant-loop decreases-loop
+same_length c = search rules
+
+returns : tie.Need-returns invariant-loop decreases-loop
+returns c = search rules
+
+pub put-word-spec : {M : Type 1} → statement M
+put-word-spec =
+    tie.close
+    (tie.spec
+    invariant-loop
+    decreases-loop
+    loop-holds
+    shared-slice-read-put-byte
+    put-byte-requires
+    add-i
+    loop-less
+    loop-again
+    same_length
+    returns)

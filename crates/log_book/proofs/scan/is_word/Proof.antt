@@ -1,0 +1,56 @@
+-- `logbook::scan::is_word` meets its contract.
+use Prim.Native.Nat.{◌-◌}
+use mathlib.Core.Path.{◌≡◌}
+use lib.ListN.{length}
+use borrow.Author.Rules.{rules}
+use Rattle.log_book.proofs.scan.is_word.Statement.{statement}
+use Rattle.log_book.proofs.scan.is_word.Tie as tie
+
+abbrev invariant-loop : tie.invariant-loop
+invariant-loop text w i₀ i = length text ≡ length w
+
+abbrev decreases-loop : tie.decreases-loop
+decreases-loop text w i₀ i = length w - i
+
+returns : tie.Need-returns invariant-loop decreases-loop
+returns c = search rules
+
+loop-holds : tie.Need-loop-init invariant-loop decreases-loop
+loop-holds c = search rules
+
+shared-slice-read-if2 : tie.Need-shared-slice-read-if2 invariant-loop decreases-loop
+shared-slice-read-if2 c = search rules
+
+shared-slice-read-if2-2 : tie.Need-shared-slice-read-if2-2 invariant-loop decreases-loop
+shared-slice-read-if2-2 c = search rules
+
+returns-2 : tie.Need-returns-2 invariant-loop decreases-loop
+returns-2 c = search rules
+
+add-i : tie.Need-overflow-add-i invariant-loop decreases-loop
+add-i c = search rules
+
+loop-less : tie.Need-loop-smaller invariant-loop decreases-loop
+loop-less c = search rules
+
+loop-again : tie.Need-loop-preserved invariant-loop decreases-loop
+loop-again c = search rules
+
+returns-3 : tie.Need-returns-3 invariant-loop decreases-loop
+returns-3 c = search rules
+
+pub is-word-spec : {M : Type 1} → statement M
+is-word-spec =
+    tie.close
+    (tie.spec
+    invariant-loop
+    decreases-loop
+    returns
+    loop-holds
+    shared-slice-read-if2
+    shared-slice-read-if2-2
+    returns-2
+    add-i
+    loop-less
+    loop-again
+    returns-3)

@@ -1,0 +1,36 @@
+use mathlib.Core.Path.{◌≡◌}
+use borrow.Author.Tests.{eq-eqb, ne_eqb}
+use Rattle.request.specs.Request.{address_read, addressed}
+use borrow.Author.Rules.{rules}
+use Rattle.request.proofs.read.addressed.Goals as goal
+
+pub returns-then-number-ne0 : goal.returns-then-number-ne0
+unfolding addressed
+returns-then-number-ne0 c =
+    let address : let a = c.args in
+    addressed a.s.now a.name ≡ address_read a.s.now a.name c.address_at.result = rw (← c.name_end.ensures, ← c.after_comma-at.ensures, ← c.address_at.ensures) in
+    rw (
+      address,
+      c.in-At.is,
+      ← c.address_fault-number.ensures,
+      ne_eqb _ _ c.if-number-ne0.true,
+    ) c.fault-then-number-ne0.ensures
+
+pub returns-in-Bad : goal.returns-in-Bad
+unfolding addressed
+returns-in-Bad c =
+    let address : let a = c.args in
+    addressed a.s.now a.name ≡ address_read a.s.now a.name c.address_at.result = rw (← c.name_end.ensures, ← c.after_comma-at.ensures, ← c.address_at.ensures) in
+    rw (address, c.in-Bad.is) c.fault.ensures
+
+pub returns-else-number-ne0 : goal.returns-else-number-ne0
+unfolding addressed
+returns-else-number-ne0 c =
+    let address : let a = c.args in
+    addressed a.s.now a.name ≡ address_read a.s.now a.name c.address_at.result = rw (← c.name_end.ensures, ← c.after_comma-at.ensures, ← c.address_at.ensures) in
+    rw (
+      address,
+      c.in-At.is,
+      ← c.address_fault-number.ensures,
+      eq-eqb _ _ c.if-number-ne0.false,
+    ) c.at_address.ensures

@@ -1,0 +1,5 @@
+use borrow.Author.Rules.{rules}
+use Rattle.hub.proofs.Hub.fresh.Goals as goal
+
+pub returns : goal.returns
+returns c = rw c.connectors.ensures

@@ -1,0 +1,7 @@
+use borrow.Author.Rules.{rules}
+use Rattle.hub.proofs.answers.written.Goals as goal
+
+pub returns : goal.returns
+returns c =
+    let put = c.put_answer-size.ensures in
+    record { result = rw put.result; laid = put.laid }

@@ -1,0 +1,26 @@
+use native.Mathlib.Omega.{arith}
+use Rattle.laws.proofs.Put.{then}
+use Rattle.writer.proofs.Sending.{no_room, not_taken, head_small, few_pairs, whole_line}
+use borrow.Author.Rules.{rules}
+use Rattle.writer.proofs.sendir.write_sendir.Goals as goal
+
+pub returns-then-buf-lt-ROOM : goal.returns-then-buf-lt-ROOM
+returns-then-buf-lt-ROOM c = no_room c.if-buf-lt-ROOM.true
+
+pub put_head-o-requires : goal.put_head-o-requires
+put_head-o-requires c =
+    let read = rw c.in-Sent.is at c.command_given.ensures in
+    (head_small _ _ read, omega (arith, c.if-buf-lt-ROOM.false))
+
+pub put_code-requires : goal.put_code-requires
+put_code-requires c =
+    let read = rw c.in-Sent.is at c.command_given.ensures in
+    (few_pairs _ _ read, omega (arith, few_pairs _ _ read, c.if-buf-lt-ROOM.false, c.put_head-o.ensures.1, c.put_head-o.auto.buf))
+
+pub returns-in-Fault : goal.returns-in-Fault
+returns-in-Fault c = not_taken _ _ c.if-buf-lt-ROOM.false (rw c.in-Fault.is at c.command_given.ensures)
+
+pub returns-in-Sent : goal.returns-in-Sent
+returns-in-Sent c =
+    let read = rw c.in-Sent.is at c.command_given.ensures in
+    whole_line _ _ read c.if-buf-lt-ROOM.false (then c.put_head-o.ensures.0 c.put_code.ensures)

@@ -1,8 +1,5 @@
-use Prim.Native.Nat.{◌-◌, ◌^◌, ◌≤◌, ◌<◌}
 use native.Mathlib.Omega.{arith}
-use lib.ListN.{length}
 use Rattle.log_book.proofs.Numbers.{small, more}
-use borrow.Author.Rules.{rules}
 use Rattle.log_book.proofs.item.number_of.Goals as goal
 
 pub overflow_mul-value : goal.overflow_mul-value

@@ -1,8 +1,5 @@
 use Prim.Native.Nat.{◌-◌, ◌^◌, ◌≤◌, ◌<◌}
-use native.Mathlib.Omega.{arith}
 use lib.ListN.{length}
-use Rattle.log_book.proofs.Numbers.{small, more}
-use borrow.Author.Rules.{rules}
 use Rattle.log_book.proofs.item.number_of.Given as goal
 
 abbrev pub invariant-loop-i : goal.invariant-loop-i

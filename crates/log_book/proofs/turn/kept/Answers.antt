@@ -1,6 +1,5 @@
 use mathlib.Core.Path.{sym}
 use lib.Seq.{length-take-le}
-use borrow.Author.Rules.{rules}
 use Rattle.log_book.proofs.turn.kept.Goals as goal
 
 pub slice_bounds-result-end : goal.slice_bounds-result-end

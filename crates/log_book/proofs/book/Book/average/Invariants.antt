@@ -1,5 +1,4 @@
 use Prim.Native.Nat.{◌-◌, ◌≤◌}
-use borrow.Author.Rules.{rules}
 use Rattle.log_book.proofs.book.Book.average.Given as goal
 
 abbrev pub invariant-loop-slot : goal.invariant-loop-slot

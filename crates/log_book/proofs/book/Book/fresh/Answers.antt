@@ -1,8 +1,5 @@
-use Prim.Native.Nat.{◌-◌}
 use Rattle.logger.proofs.Tallies.{fresh_sound}
-use Rattle.log_book.specs.Book.{SoundAll}
 use Rattle.log_book.proofs.Books.{alike_sound, set_sound}
-use borrow.Author.Rules.{rules}
 use Rattle.log_book.proofs.book.Book.fresh.Goals as goal
 
 pub loop-slot-init : goal.loop-slot-init

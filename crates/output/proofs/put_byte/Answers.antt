@@ -1,0 +1,7 @@
+use Rattle.laws.proofs.Put.{byte}
+use native.Mathlib.Omega.{arith}
+use borrow.Author.Rules.{rules}
+use Rattle.output.proofs.put_byte.Goals as goal
+
+pub returns : goal.returns
+returns c = byte _ _ _ (omega arith)

@@ -1,0 +1,15 @@
+use lib.ListN.{length, take, drop, length-map}
+use Prim.Native.Nat.{◌+◌, ◌-◌, ◌*◌, ◌≤◌}
+use mathlib.Core.Path.{◌≡◌, sym, ◌∙◌}
+use native.Mathlib.Omega.{arith}
+use Rattle.script.specs.Output.{printed_completions}
+use Rattle.script.proofs.Printing.{completions_more, completions_stop, completions_done}
+use Rattle.script.proofs.Putting.{Putting, putting_start, putting_length, putting_end, putting_more}
+use borrow.Author.Rules.{rules}
+use Rattle.script.proofs.output.put_completions.Given as goal
+
+abbrev pub invariant-loop-i : goal.invariant-loop-i
+invariant-loop-i l = (l.i ≤ 3) × (l.o ≤ l.at + 256 * l.i) × Putting l.initial.out l.at (printed_completions (take l.count l.items)) (printed_completions (drop l.i (take l.count l.items))) l.out l.o
+
+abbrev pub decreases-loop-i : goal.decreases-loop-i
+decreases-loop-i l = 3 - l.i

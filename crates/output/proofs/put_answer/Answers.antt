@@ -4,7 +4,6 @@ use Rattle.reply.proofs.Lengths.{reply_fits}
 use Rattle.laws.proofs.Put.{nothing}
 use native.Mathlib.Omega.{arith}
 use Rattle.output.specs.Output.{answer_frames}
-use borrow.Author.Rules.{rules}
 use Rattle.output.proofs.put_answer.Goals as goal
 
 pub put_reply-requires : goal.put_reply-requires

@@ -1,6 +1,5 @@
 use Rattle.laws.proofs.Put.{byte}
 use native.Mathlib.Omega.{arith}
-use borrow.Author.Rules.{rules}
 use Rattle.output.proofs.put_byte.Goals as goal
 
 pub returns : goal.returns

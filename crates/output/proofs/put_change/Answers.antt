@@ -1,7 +1,6 @@
 use Rattle.laws.proofs.Put.{nothing}
 use native.Mathlib.Omega.{arith}
 use Rattle.output.specs.Output.{change_frames}
-use borrow.Author.Rules.{rules}
 use Rattle.output.proofs.put_change.Goals as goal
 
 pub put_connector-requires : goal.put_connector-requires

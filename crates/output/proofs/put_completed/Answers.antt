@@ -1,6 +1,5 @@
 use Rattle.output.proofs.Laying.{moment_length}
 use Rattle.laws.proofs.Put.{then}
-use borrow.Author.Rules.{rules}
 use Rattle.output.proofs.put_completed.Goals as goal
 
 pub returns : goal.returns

@@ -5,7 +5,6 @@ use Rattle.reply.specs.declared.Reply.TheVariants.{Complete}
 use Rattle.reply.proofs.Lengths.{reply_fits}
 use Rattle.output.specs.Output.{completion_frame}
 use Rattle.output.proofs.Laying.{laid_text}
-use borrow.Author.Rules.{rules}
 use Rattle.output.proofs.put_completion.Goals as goal
 
 pub slice_bounds-put_completed-end : goal.slice_bounds-put_completed-end

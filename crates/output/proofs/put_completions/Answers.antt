@@ -1,10 +1,9 @@
-use Prim.Native.Nat.{◌-◌}
-use mathlib.Core.Path.{◌≡◌, sym, ◌∙◌}
+use mathlib.Core.Path.{◌≡◌}
 use native.Mathlib.Omega.{arith}
-use lib.ListN.{length, length-map}
+use lib.ListN.{length}
 use Rattle.laws.proofs.Put.{put_length}
 use Rattle.hub.specs.Completions.{no_completion}
-use Rattle.output.proofs.Laying.{Laying, laying_starts, laying_room, laying_more, laying_stops, laying_ends}
+use Rattle.output.proofs.Laying.{laying_starts, laying_room, laying_more, laying_stops, laying_ends}
 use borrow.Author.Rules.{rules}
 use Rattle.output.proofs.put_completions.Goals as goal
 

@@ -1,10 +1,5 @@
 use Prim.Native.Nat.{◌-◌}
-use mathlib.Core.Path.{◌≡◌, sym, ◌∙◌}
-use native.Mathlib.Omega.{arith}
-use lib.ListN.{length, length-map}
-use Rattle.laws.proofs.Put.{put_length}
-use Rattle.hub.specs.Completions.{no_completion}
-use Rattle.output.proofs.Laying.{Laying, laying_starts, laying_room, laying_more, laying_stops, laying_ends}
+use Rattle.output.proofs.Laying.{Laying}
 use Rattle.output.proofs.put_completions.Given as goal
 
 abbrev pub invariant-loop-i : goal.invariant-loop-i

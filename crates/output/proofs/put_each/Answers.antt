@@ -1,5 +1,4 @@
 use Rattle.laws.proofs.Put.{then}
-use borrow.Author.Rules.{rules}
 use Rattle.output.proofs.put_each.Goals as goal
 
 pub returns : goal.returns

@@ -1,5 +1,4 @@
 use Rattle.laws.proofs.Put.{then}
-use borrow.Author.Rules.{rules}
 use Rattle.output.proofs.put_reply.Goals as goal
 
 pub returns-in-Nobody : goal.returns-in-Nobody

@@ -1,5 +1,4 @@
 use Rattle.laws.proofs.Put.{then}
-use borrow.Author.Rules.{rules}
 use Rattle.output.proofs.put_sending.Goals as goal
 
 pub returns-in-Idle : goal.returns-in-Idle

@@ -1,4 +1,3 @@
-use borrow.Author.Rules.{rules}
 use Rattle.output.proofs.to_whom.Goals as goal
 
 pub returns-in-Nobody : goal.returns-in-Nobody

@@ -1,7 +1,6 @@
 use Prim.Native.Nat.{◌-◌}
 use mathlib.Core.Path.{◌≡◌}
 use lib.ListN.{length}
-use borrow.Author.Rules.{rules}
 use Rattle.log_book.proofs.scan.is_word.Given as goal
 
 abbrev pub invariant-loop-i : goal.invariant-loop-i

@@ -1,7 +1,6 @@
 use Rattle.script.proofs.Inputs.{call_bad, call_good}
 use mathlib.Core.Path.{sym, ◌∙◌}
 use borrow.Author.Tests.{eq-eqb, ne_eqb}
-use borrow.Author.Rules.{rules}
 use Rattle.script.proofs.input.call_in.Goals as goal
 
 pub returns-then-letter-eq114 : goal.returns-then-letter-eq114

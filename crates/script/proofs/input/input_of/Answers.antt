@@ -2,7 +2,6 @@ use mathlib.Core.Path.{sym, ◌∙◌}
 use native.Mathlib.Omega.{arith}
 use Rattle.text.proofs.Reading.{digit_range}
 use Rattle.script.proofs.Inputs.{one_digit}
-use borrow.Author.Rules.{rules}
 use Rattle.script.proofs.input.input_of.Goals as goal
 
 pub overflow_sub-result : goal.overflow_sub-result

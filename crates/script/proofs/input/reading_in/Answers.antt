@@ -3,7 +3,6 @@ use mathlib.Core.Path.{sym, ◌∙◌}
 use native.Mathlib.Omega.{arith}
 use Rattle.script.proofs.Parting.{up_to_length}
 use Rattle.script.proofs.Inputs.{reading_whole, reading_no_port, reading_no_value, reading_is}
-use borrow.Author.Rules.{rules}
 use Rattle.script.proofs.input.reading_in.Goals as goal
 
 pub returns-then-end-s : goal.returns-then-end-s

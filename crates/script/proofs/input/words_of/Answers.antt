@@ -3,7 +3,6 @@ use native.Mathlib.Omega.{arith}
 use lib.Seq.{length-take-le}
 use Rattle.script.proofs.Parting.{up_to_length}
 use Rattle.script.proofs.Inputs.{input_whole, input_line, input_long, input_call}
-use borrow.Author.Rules.{rules}
 use Rattle.script.proofs.input.words_of.Goals as goal
 
 pub returns-then-end-s : goal.returns-then-end-s

@@ -1,6 +1,5 @@
 use native.Mathlib.Omega.{arith}
 use lib.ListN.{length-set}
-use borrow.Author.Rules.{rules}
 use Rattle.script.proofs.output.put_around.Goals as goal
 
 pub bounds-out-at-2 : goal.bounds-out-at-2

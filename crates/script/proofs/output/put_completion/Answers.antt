@@ -7,7 +7,6 @@ use Rattle.reply.specs.declared.Reply.TheVariants.{Complete}
 use Rattle.script.specs.Output.{printed_completion}
 use Rattle.script.proofs.Replies.{reply_most, completion_most}
 use Rattle.script.proofs.Putting.{aside}
-use borrow.Author.Rules.{rules}
 use Rattle.script.proofs.output.put_completion.Goals as goal
 
 pub put_number-b-requires : goal.put_number-b-requires

@@ -1,11 +1,8 @@
-use lib.ListN.{length, take, drop, length-map}
-use Prim.Native.Nat.{◌+◌, ◌-◌, ◌*◌, ◌≤◌}
-use mathlib.Core.Path.{◌≡◌, sym, ◌∙◌}
+use lib.ListN.{length}
+use mathlib.Core.Path.{◌≡◌}
 use native.Mathlib.Omega.{arith}
-use Rattle.script.specs.Output.{printed_completions}
 use Rattle.script.proofs.Printing.{completions_more, completions_stop, completions_done}
-use Rattle.script.proofs.Putting.{Putting, putting_start, putting_length, putting_end, putting_more}
-use borrow.Author.Rules.{rules}
+use Rattle.script.proofs.Putting.{putting_start, putting_length, putting_end, putting_more}
 use Rattle.script.proofs.output.put_completions.Goals as goal
 
 pub loop-i-init : goal.loop-i-init

@@ -1,11 +1,7 @@
-use lib.ListN.{length, take, drop, length-map}
+use lib.ListN.{take, drop}
 use Prim.Native.Nat.{◌+◌, ◌-◌, ◌*◌, ◌≤◌}
-use mathlib.Core.Path.{◌≡◌, sym, ◌∙◌}
-use native.Mathlib.Omega.{arith}
 use Rattle.script.specs.Output.{printed_completions}
-use Rattle.script.proofs.Printing.{completions_more, completions_stop, completions_done}
-use Rattle.script.proofs.Putting.{Putting, putting_start, putting_length, putting_end, putting_more}
-use borrow.Author.Rules.{rules}
+use Rattle.script.proofs.Putting.{Putting}
 use Rattle.script.proofs.output.put_completions.Given as goal
 
 abbrev pub invariant-loop-i : goal.invariant-loop-i

@@ -2,7 +2,6 @@ use native.Mathlib.Omega.{arith}
 use Rattle.laws.proofs.Put.{then}
 use Rattle.script.specs.Output.{who_text}
 use Rattle.script.proofs.Printing.{line_length}
-use borrow.Author.Rules.{rules}
 use Rattle.script.proofs.output.put_line.Goals as goal
 
 pub put_who-a-requires : goal.put_who-a-requires

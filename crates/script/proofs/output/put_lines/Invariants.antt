@@ -1,11 +1,8 @@
 use Prim.Native.Nat.{◌-◌, ◌≤◌}
-use native.Mathlib.Omega.{arith}
 use lib.ListN.{length, drop}
 use Rattle.laws.specs.Lists.{cut}
 use Rattle.script.specs.Output.{lines_for, printed_reply, who_text}
-use Rattle.script.proofs.Printing.{line_within, lines_more, line_room, lines_stop, lines_done}
-use Rattle.script.proofs.Putting.{Putting, putting_start, putting_length, putting_room, putting_end, putting_more}
-use borrow.Author.Rules.{rules}
+use Rattle.script.proofs.Putting.{Putting}
 use Rattle.script.proofs.output.put_lines.Given as goal
 
 abbrev pub invariant-loop-i : goal.invariant-loop-i

@@ -2,7 +2,6 @@ use native.Mathlib.Omega.{arith}
 use Rattle.laws.proofs.Put.{then}
 use Rattle.text.proofs.Decimals.{decimal_most}
 use Rattle.script.specs.Output.{printed_refusal}
-use borrow.Author.Rules.{rules}
 use Rattle.script.proofs.output.put_refusal.Goals as goal
 
 pub put_number-b-requires : goal.put_number-b-requires

@@ -1,6 +1,5 @@
 use native.Mathlib.Omega.{arith}
 use Rattle.script.specs.Output.{who_text}
-use borrow.Author.Rules.{rules}
 use Rattle.script.proofs.output.put_who.Goals as goal
 
 pub put_word-requires : goal.put_word-requires

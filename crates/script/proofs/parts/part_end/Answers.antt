@@ -1,10 +1,6 @@
-use Prim.Native.Nat.{◌+◌, ◌-◌, ◌≤◌}
-use mathlib.Core.Path.{◌≡◌, refl}
+use mathlib.Core.Path.{refl}
 use native.Mathlib.Omega.{arith}
-use lib.ListN.{length, drop}
-use Rattle.laws.proofs.Cutting.{up_to}
 use Rattle.script.proofs.Parting.{up_to_more, up_to_stop, up_to_done}
-use borrow.Author.Rules.{rules}
 use Rattle.script.proofs.parts.part_end.Goals as goal
 
 pub loop-i-init : goal.loop-i-init

@@ -2,7 +2,6 @@ use lib.ListN.{length}
 use mathlib.Core.Path.{refl}
 use Rattle.script.specs.Turn.{line_outcome}
 use Rattle.script.proofs.Turning.{line_roomy, overlong_roomy}
-use borrow.Author.Rules.{rules}
 use Rattle.script.proofs.turn.answered.Goals as goal
 
 pub returns-then-more : goal.returns-then-more

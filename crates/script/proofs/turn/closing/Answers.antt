@@ -1,7 +1,6 @@
 use mathlib.Core.Path.{ap}
 use Rattle.hub.specs.declared.Moved.{Moved}
 use Rattle.script.specs.Turn.{closing_made}
-use borrow.Author.Rules.{rules}
 use Rattle.script.proofs.turn.closing.Goals as goal
 
 pub returns : goal.returns

@@ -1,7 +1,6 @@
 use native.Mathlib.Omega.{arith}
 use Rattle.script.specs.Turn.{line_outcome}
 use Rattle.script.proofs.Turning.{for_one_law, again_length, again_stands, change_so, sized_so, answer_shown}
-use borrow.Author.Rules.{rules}
 use Rattle.script.proofs.turn.line.Goals as goal
 
 pub put_answer-requires : goal.put_answer-requires

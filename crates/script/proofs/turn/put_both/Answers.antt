@@ -6,7 +6,6 @@ use Rattle.connector.specs.declared.Owner.TheVariants.{Connection}
 use Rattle.script.specs.Output.{who_text}
 use Rattle.script.proofs.Replies.{reply_most}
 use Rattle.script.proofs.Putting.{aside}
-use borrow.Author.Rules.{rules}
 use Rattle.script.proofs.turn.put_both.Goals as goal
 
 pub slice_bounds-put_lines-end : goal.slice_bounds-put_lines-end

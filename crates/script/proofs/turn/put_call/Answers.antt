@@ -2,7 +2,6 @@ use native.Mathlib.Omega.{arith}
 use Rattle.laws.proofs.Put.{nothing}
 use Rattle.script.specs.Output.{printed_call}
 use Rattle.script.proofs.Printing.{refusal_length}
-use borrow.Author.Rules.{rules}
 use Rattle.script.proofs.turn.put_call.Goals as goal
 
 pub returns-in-Refused : goal.returns-in-Refused

@@ -3,7 +3,6 @@ use native.Mathlib.Omega.{arith}
 use mathlib.Core.List.{append-nil}
 use Rattle.reply.proofs.Lengths.{reply_fits}
 use Rattle.script.proofs.Replies.{around_reply, one_some}
-use borrow.Author.Rules.{rules}
 use Rattle.script.proofs.turn.put_reply.Goals as goal
 
 pub put_around-requires : goal.put_around-requires

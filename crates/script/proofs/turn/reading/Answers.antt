@@ -1,6 +1,5 @@
 use Rattle.hub.proofs.Keeps.{reading_in_range}
 use Rattle.script.specs.Turn.{reading_made}
-use borrow.Author.Rules.{rules}
 use Rattle.script.proofs.turn.reading.Goals as goal
 
 pub applied-requires : goal.applied-requires

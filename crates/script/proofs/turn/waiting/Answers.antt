@@ -2,7 +2,6 @@ use mathlib.Core.Path.{ap}
 use Rattle.laws.proofs.Put.{then}
 use Rattle.hub.specs.declared.Waited.{Waited}
 use Rattle.script.specs.Turn.{waiting_made}
-use borrow.Author.Rules.{rules}
 use Rattle.script.proofs.turn.waiting.Goals as goal
 
 pub returns : goal.returns

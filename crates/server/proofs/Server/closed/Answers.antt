@@ -1,6 +1,5 @@
 use borrow.Author.Tests.{lt-ltb, le-ltb}
 use Rattle.server.specs.Calls.{closed_call}
-use borrow.Author.Rules.{rules}
 use Rattle.server.proofs.Server.closed.Goals as goal
 
 pub returns-then-connection-gt-MOST_CONNECTION : goal.returns-then-connection-gt-MOST_CONNECTION

@@ -1,5 +1,4 @@
 use borrow.Author.Tests.{eq-eqb, ne_eqb}
-use borrow.Author.Rules.{rules}
 use Rattle.server.proofs.Server.due.Goals as goal
 
 pub returns-then-completions-eq0 : goal.returns-then-completions-eq0

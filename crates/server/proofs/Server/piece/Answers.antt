@@ -2,7 +2,6 @@ use mathlib.Core.Path.{refl, sym}
 use borrow.Author.Tests.{lt-ltb, le-ltb, eq-eqb, ne_eqb}
 use Rattle.laws.proofs.Put.{over_nothing}
 use Rattle.server.specs.Piece.{piece_step}
-use borrow.Author.Rules.{rules}
 use Rattle.server.proofs.Server.piece.Goals as goal
 
 pub returns-then-connection-gt-MOST_CONNECTION : goal.returns-then-connection-gt-MOST_CONNECTION

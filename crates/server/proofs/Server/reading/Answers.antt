@@ -1,5 +1,4 @@
 use Rattle.hub.proofs.Keeps.{reading_in_range}
-use borrow.Author.Rules.{rules}
 use Rattle.server.proofs.Server.reading.Goals as goal
 
 pub applied-hub-requires : goal.applied-hub-requires

@@ -3,7 +3,6 @@ use mathlib.Core.Path.{◌≡◌, refl, sym}
 use native.Mathlib.Omega.{arith}
 use lib.ListN.{length}
 use Rattle.laws.proofs.Put.{over_nothing}
-use borrow.Author.Rules.{rules}
 use Rattle.server.proofs.piece.answered.Goals as goal
 
 pub overflow_add-to : goal.overflow_add-to

@@ -2,7 +2,6 @@ use Prim.Native.Nat.{◌+◌, ◌-◌}
 use native.Mathlib.Omega.{arith}
 use Rattle.server.specs.Record.{buffer_size}
 use Rattle.server.proofs.Joining.{joins}
-use borrow.Author.Rules.{rules}
 use Rattle.server.proofs.piece.joined.Goals as goal
 
 pub returns : goal.returns

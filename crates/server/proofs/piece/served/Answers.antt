@@ -1,6 +1,5 @@
 use native.Mathlib.Omega.{arith}
 use Rattle.server.proofs.Joining.{found_fits, found_in_range, serves}
-use borrow.Author.Rules.{rules}
 use Rattle.server.proofs.piece.served.Goals as goal
 
 pub joined-taken-requires : goal.joined-taken-requires

@@ -1,57 +1,57 @@
 -- text, writer, reply, composer and lines: what is written into lent memory. An outcome is the result and the memory after it.
 use mathlib.Core.Path.{refl, sym, ◌∙◌}
-use Rattle.text.proofs as text
-use Rattle.writer.proofs as writer
-use Rattle.reply.proofs as reply
-use Rattle.composer.proofs as composer
-use Rattle.lines.proofs as lines
+use Rattle.text.specs.contracts as text
+use Rattle.writer.specs.contracts as writer
+use Rattle.reply.specs.contracts as reply
+use Rattle.composer.specs.contracts as composer
+use Rattle.lines.specs.contracts as lines
 use Rattle.allowed.specs.Allowed.{One}
 use Rattle.allowed.proofs.Law.{promised, told, both}
 
 -- text::write::put_word
-pub text_put_word : One text.write.put_word.ended (λ _. text.write.put_word.spec)
+pub text_put_word : One text.write.put_word.ended (λ _ _. text.write.put_word.spec)
 text_put_word = promised _ refl (λ _ _ _ _ _ _ p q. (p.place ∙ sym q.place, both (p.laid ∙ sym q.laid) refl))
 
 -- text::write::put_number
-pub text_put_number : One text.write.put_number.ended (λ _. text.write.put_number.spec)
+pub text_put_number : One text.write.put_number.ended (λ _ _. text.write.put_number.spec)
 text_put_number = promised _ refl (λ _ _ _ _ _ _ p q. (p.place ∙ sym q.place, both (p.laid ∙ sym q.laid) refl))
 
 -- writer::sendir::write_sendir
-pub writer_write_sendir : One writer.sendir.write_sendir.ended (λ _. writer.sendir.write_sendir.spec)
+pub writer_write_sendir : One writer.sendir.write_sendir.ended (λ _ _. writer.sendir.write_sendir.spec)
 writer_write_sendir = promised _ refl (λ _ _ _ _ _ _ p q. (p.answer ∙ sym q.answer, both (p.laid ∙ sym q.laid) refl))
 
 -- reply::put_address
-pub reply_put_address : One reply.put_address.ended (λ _. reply.put_address.spec)
+pub reply_put_address : One reply.put_address.ended (λ _ _. reply.put_address.spec)
 reply_put_address = promised _ refl (λ _ _ _ _ _ _ p q. (p.0.place ∙ sym q.0.place, both (p.0.laid ∙ sym q.0.laid) refl))
 
 -- reply::put_last
-pub reply_put_last : One reply.put_last.ended (λ _. reply.put_last.spec)
+pub reply_put_last : One reply.put_last.ended (λ _ _. reply.put_last.spec)
 reply_put_last = promised _ refl (λ _ _ _ _ _ _ p q. (p.place ∙ sym q.place, both (p.laid ∙ sym q.laid) refl))
 
 -- reply::put_two
-pub reply_put_two : One reply.put_two.ended (λ _. reply.put_two.spec)
+pub reply_put_two : One reply.put_two.ended (λ _ _. reply.put_two.spec)
 reply_put_two = promised _ refl (λ _ _ _ _ _ _ p q. (p.place ∙ sym q.place, both (p.laid ∙ sym q.laid) refl))
 
 -- reply::put_mode
-pub reply_put_mode : One reply.put_mode.ended (λ _. reply.put_mode.spec)
+pub reply_put_mode : One reply.put_mode.ended (λ _ _. reply.put_mode.spec)
 reply_put_mode = promised _ refl (λ _ _ _ _ _ _ p q. (p.place ∙ sym q.place, both (p.laid ∙ sym q.laid) refl))
 
 -- reply::put_reply
-pub reply_put_reply : One reply.put_reply.ended (λ _. reply.put_reply.spec)
+pub reply_put_reply : One reply.put_reply.ended (λ _ _. reply.put_reply.spec)
 reply_put_reply = promised _ refl (λ _ _ _ _ _ _ p q. (p.place ∙ sym q.place, both (p.laid ∙ sym q.laid) refl))
 
 -- composer::compose::compose
-pub composer_compose : One composer.compose.compose.ended (λ _. composer.compose.compose.spec)
+pub composer_compose : One composer.compose.compose.ended (λ _ _. composer.compose.compose.spec)
 composer_compose = promised _ refl (λ _ _ _ _ _ _ p q. (p.answer ∙ sym q.answer, both (p.laid ∙ sym q.laid) refl))
 
 -- composer::compose::compose_sendir
-pub composer_compose_sendir : One composer.compose.compose_sendir.ended (λ _. composer.compose.compose_sendir.spec)
+pub composer_compose_sendir : One composer.compose.compose_sendir.ended (λ _ _. composer.compose.compose_sendir.spec)
 composer_compose_sendir = promised _ refl (λ _ _ _ _ _ _ p q. (p.answer ∙ sym q.answer, both (p.laid ∙ sym q.laid) refl))
 
 -- lines::Assembler::fresh
-pub lines_fresh : One lines.Assembler.fresh.ended (λ _. lines.Assembler.fresh.spec)
+pub lines_fresh : One lines.Assembler.fresh.ended (λ _ _. lines.Assembler.fresh.spec)
 lines_fresh = told _ refl (λ _ _ _ _. refl)
 
 -- lines::Assembler::take
-pub lines_take : One lines.Assembler.take.ended (λ _. lines.Assembler.take.spec)
+pub lines_take : One lines.Assembler.take.ended (λ _ _. lines.Assembler.take.spec)
 lines_take = promised _ refl (λ _ _ _ _ _ _ p q. (p.result ∙ sym q.result, both refl (both (p.laid ∙ sym q.laid) refl)))

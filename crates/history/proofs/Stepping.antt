@@ -46,7 +46,7 @@ use Rattle.steps.specs.declared.send.Verdict.TheVariants as verdict
 use Rattle.steps.specs.Step as step
 use Rattle.steps.specs.Step.{Made, keeping, by_verdict, command_step, command_read, send_step, step_of}
 use Rattle.hub.specs.Record.{part_size}
-use Rattle.shown.proofs.Known.{Known, transmits, with_sending, with_mode, same_command, commanded, sent_to, asked, reply_alone, error_line, contact_said, command_said, sendir_said, told, lamp_said, ask_said, with_reading, read_as, reading_said}
+use Rattle.shown.proofs.Known.{Known, transmits, with_sending, same_command, commanded, sent_to, asked, reply_alone, error_line, contact_said, command_said, sendir_said, told, lamp_said, ask_said, read_as, reading_said}
 use Rattle.shown.proofs.Shown.{shown, FitFor, HeldIn, fit_on_air, mode_shown, sensor_shown, lighting_shown, silent_shown, lamp_shown, contact_shown, running_shown, with_mode_shown, with_reading_shown, with_lamp_shown, stopped_shown, told_shown, started_shown, renewed_shown, verdict_on, verdict_shown}
 
 -- a step of a connector that was known as x: its answer, and that it shows y then

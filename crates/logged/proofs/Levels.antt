@@ -1,12 +1,12 @@
 -- A lamp of any connector shows any level with any target: it is turned on its way from 0 to 100, after as many times 10,000 µs as percents.
 use Prim.Native.Nat.{ℕ, ◌+◌, ◌-◌, ◌*◌, ◌≤◌}
 use mathlib.Core.Path.{◌≡◌, refl, ap, ◌∙◌}
-use mathlib.Core.Bool.{true, false, cond}
+use mathlib.Core.Bool.{true}
 use mathlib.Core.List.{List, [], ◌∷◌, ◌++◌}
 use native.Mathlib.Nat.{zero-add}
 use native.Mathlib.Omega.{arith}
 use borrow.Author.Tests.{eq-eqb, le-ltb, ltb-true, ltb-false}
-use lib.Dec.{eqb, ltb, leb}
+use lib.Dec.{ltb}
 use Rattle.laws.specs.Bytes.{bytes}
 use Rattle.laws.specs.Checks.{between}
 use Rattle.laws.proofs.Choice.{by_test, between_least, between_most}
@@ -16,16 +16,16 @@ use Rattle.words.specs.Places.{connectors}
 use Rattle.text.proofs.Decimals.{decimal_spells}
 use Rattle.request.specs.Place.{place_of}
 use Rattle.meaning.specs.Line as text
-use Rattle.meaning.specs.Lamp.{Lamp, dark, exactly, towards, exact_level, level, turned}
-use Rattle.meaning.specs.Log.{Deed, passed, setting, changed, lit, now, lamp_of, on_air}
-use Rattle.meaning.specs.Table.{Judged, does, taken, reply, Call, line, waiting, judge, said}
+use Rattle.meaning.specs.Lamp.{dark, exactly, towards, exact_level, level, turned}
+use Rattle.meaning.specs.Log.{Deed, passed, setting, changed, lit, on_air}
+use Rattle.meaning.specs.Table.{does, taken, reply, Call, line, waiting, judge, said}
 use Rattle.theorems.specs.Deeds.{lighting}
 use Rattle.theorems.specs.Spelled.{fields, at, lamp_line}
 use Rattle.theorems.proofs.Spelled.{set_ir_spelled, set_led_lighting_spelled, get_led_lighting_spelled}
 use Rattle.theorems.proofs.Ramps.{from_exact_level}
 use Rattle.logger.specs.declared.Heard.TheVariants as heard
 use Rattle.logger.specs.Heard.{line_of}
-use Rattle.logged.specs.Written.{written_to, Writes}
+use Rattle.logged.specs.Written.{Writes}
 use Rattle.logged.proofs.Said.{with_last}
 use Rattle.logged.proofs.Texts.{alone_written}
 use Rattle.logged.proofs.Ids.{next_call, one, heard}

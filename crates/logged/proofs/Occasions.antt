@@ -125,7 +125,7 @@ tables =
       relay_errors = refl;
       contacts = refl;
       relays = refl;
-      modes = λ m. elim m [ Ir ↦ refl | Sensor ↦ refl | IrBlaster ↦ refl | LedLighting ↦ refl ];
+      modes = λ m. elim m as (λ k. all (λ p. shown (Mode (place_of 1 p) k)) ports ≡ true) [ Ir ↦ refl | Sensor ↦ refl | IrBlaster ↦ refl | LedLighting ↦ refl ];
       stops = refl;
       version = refl;
     }

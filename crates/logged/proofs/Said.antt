@@ -24,7 +24,7 @@ use Rattle.request.specs.Mode.{mode_word, may_have}
 use Rattle.meaning.specs.Line as text
 use Rattle.meaning.specs.Line.{is, number, within, addressed, code_in}
 use Rattle.meaning.specs.Time.{Transmission, complete}
-use Rattle.meaning.specs.Lamp.{Lamp, dark, level, turned}
+use Rattle.meaning.specs.Lamp.{Lamp, dark, level}
 use Rattle.meaning.specs.Log.{Deed, now, contact_of, lamp_of, relay_of, owner_of, on_air}
 use Rattle.meaning.specs.Table as table
 use Rattle.meaning.specs.Table.{Completion, Answer, refused, taken, replied, Judged, refusal, error, does, answer_of, Row, Call, line, overlong, reading, closing, waiting, row_of, judge, log_of, due_of, due, inserted, ordered, completions}

@@ -108,7 +108,7 @@ module _ (block : List ℕ) (bytes : (k : ℕ) → get_or block k 0 < 256) where
       runs_keep r x.sound (x.long ∙ long)
 
   -- where there is a byte and room, a byte is used
-  runs_some : {text : List ℕ} {room i j : ℕ} {w v : Whole} → Runs block room i w text j v → SoundState w.state → length w.buffers ≡ all_buffers
+  runs_some : {room i j : ℕ} {w v : Whole} {text : List ℕ} → Runs block room i w text j v → SoundState w.state → length w.buffers ≡ all_buffers
       → i < length block → turn_room ≤ room → i < j
   runs_some (stops (inl end)) sound long less room = absurd (omega arith)
   runs_some (stops (inr full)) sound long less room = absurd (omega arith)

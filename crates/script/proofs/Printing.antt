@@ -6,7 +6,7 @@ use native.Mathlib.Omega.{arith}
 use lib.ListN.{length, take, drop, get_or, length-append, length-take, length-drop, drop_of_length-le}
 use lib.Seq.{drop-drop, get_or-take}
 use Rattle.laws.specs.Lists.{cut, behind}
-use Rattle.laws.proofs.Cutting.{up_to, count, parts_are}
+use Rattle.laws.proofs.Cutting.{up_to, parts_are}
 use Rattle.laws.proofs.Joining.{cut_free}
 use Rattle.laws.proofs.Lists.{drop_next}
 use Rattle.text.proofs.Decimals.{decimal_most}

@@ -347,7 +347,7 @@ module _ (room : ℕ) (enough : 128 ≤ room) where
   events_give [] s k = gives_none k
   events_give {begun} (e ∷ events) s k =
       let x = event_gives e s k in
-      gives_then (served room events) x (events_give events (event_served room e s).state x.stands)
+      gives_then (served room events) x (events_give {begun = begun_by begun e} events (event_served room e s).state x.stands)
 
   -- ---- the theorems, from a fresh server, whatever the lent memory holds at first
   module _ (store buffers : List ℕ) (sized : length store ≡ 1560) (long : length buffers ≡ all_buffers) (events : List Event) where

@@ -21,11 +21,11 @@ use Rattle.command.specs.Read.{Accepts}
 use Rattle.pace.specs.declared.Passed.TheVariants as passed
 use Rattle.pace.specs.Pace.{micros}
 use Rattle.meaning.specs.Time.{Transmission, complete, finish, carrier, started, renewed}
-use Rattle.meaning.specs.Lamp.{dark, level, turned}
+use Rattle.meaning.specs.Lamp.{dark, turned}
 use Rattle.meaning.specs.Log.{until}
 use Rattle.lamp.specs.Lamp as lamp
 use Rattle.lamp.specs.Lamp.{percent_of}
-use Rattle.lamp.proofs.Meaning.{shown_at, percent_shown, turned_shown, at_rest}
+use Rattle.lamp.proofs.Meaning.{shown_at, turned_shown, at_rest}
 use Rattle.lamp.proofs.Meaning.{passed_shown as lamp_passed}
 use Rattle.store.specs.Store.{alike}
 use Rattle.store.proofs.Kept.{alike_same}

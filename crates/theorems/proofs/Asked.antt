@@ -113,9 +113,9 @@ module _ (log : List Deed) (p v : ℕ) (told : Option ℕ) (port : Port connecto
         let range = within_is 1 2 (part 58 0 (part 44 1 s)) module-taken in
         let differs = eqb-false m 2 contact in
         let one : m ≡ 1 = omega (arith, range.0, range.1) in
-        let Known-as = Option.get_or (contact_of q log) 0 in
-        let w : text.line "state," 1 q (decimal Known-as) ≡ text.line "state," 1 p (decimal v) = cc in
-        let t = state_text 1 q Known-as p v (omega arith) (port_digit m _ port-taken) (omega (arith, port.most)) (omega arith) w in
+        let known_as = Option.get_or (contact_of q log) 0 in
+        let w : text.line "state," 1 q (decimal known_as) ≡ text.line "state," 1 p (decimal v) = cc in
+        let t = state_text 1 q known_as p v (omega arith) (port_digit m _ port-taken) (omega (arith, port.most)) (omega arith) w in
         record {
           connection_most = known;
           room_least = enough;

@@ -1,0 +1,15 @@
+use mathlib.Core.Path.{sym, ◌∙◌}
+use Rattle.hearing.specs.Guess.{value_at}
+use Rattle.hearing.proofs.guess.value_at.Goals as goal
+
+pub returns-in-Missing : goal.returns-in-Missing
+unfolding value_at
+returns-in-Missing c = rw (sym c.number_at.ensures ∙ c.in-Missing.is)
+
+pub returns-in-TooLong : goal.returns-in-TooLong
+unfolding value_at
+returns-in-TooLong c = rw (sym c.number_at.ensures ∙ c.in-TooLong.is)
+
+pub returns-in-Value : goal.returns-in-Value
+unfolding value_at
+returns-in-Value c = rw (sym c.number_at.ensures ∙ c.in-Value.is)

@@ -1,5 +1,5 @@
 -- Laws of the loop that reads a code.
-use Prim.Native.Nat.{ℕ, zero, ◌+◌, ◌-◌, ◌*◌, ◌≤◌, ◌<◌}
+use Prim.Native.Nat.{ℕ, ◌+◌, ◌-◌, ◌*◌, ◌≤◌, ◌<◌}
 use mathlib.Core.Path.{◌≡◌, refl, sym, ap, ◌∙◌, subst}
 use mathlib.Core.Bool.{true, false}
 use mathlib.Core.List.{List, [], ◌∷◌}
@@ -23,7 +23,7 @@ use Rattle.code.specs.declared.next.After.{After}
 use Rattle.code.specs.declared.next.After.TheVariants.{Nothing, Spelling, Lettering}
 use Rattle.code.specs.Letters.{no_letters, letters_of, held, Kept}
 use Rattle.code.specs.Next.{is_letter, next_pair}
-use Rattle.code.specs.Read.{Reading, pairs, fault, read_code, read_of, found, ReadInto}
+use Rattle.code.specs.Read.{pairs, fault, read_code, ReadInto}
 use Rattle.decoder.specs.Follows.{Follows, pairs_at, lags}
 use Rattle.code.proofs.Nexts.{Sound, next_sound, next_unlettered}
 use Rattle.code.proofs.Lettering.{letters_more}

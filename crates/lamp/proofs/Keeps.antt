@@ -1,11 +1,11 @@
 -- Soundness is kept: a lamp is dark, gets another target, or moves on.
-use Prim.Native.Nat.{ℕ, ◌+◌, ◌-◌, ◌*◌, ◌≤◌}
+use Prim.Native.Nat.{ℕ, ◌+◌, ◌≤◌}
 use mathlib.Core.Path.{◌≡◌, refl}
 use mathlib.Core.Bool.{true, false, cond}
 use native.Mathlib.Omega.{arith}
-use borrow.Author.Tests.{ltb-true, ltb-false}
+use borrow.Author.Tests.{ltb-false}
 use lib.Dec.{ltb, eqb}
-use Rattle.laws.proofs.Choice.{by_test, cond_case, not_both}
+use Rattle.laws.proofs.Choice.{cond_case, not_both}
 use Rattle.lamp.specs.declared.Lamp.{Lamp}
 use Rattle.meaning.specs.Lamp.{exactly}
 use Rattle.lamp.specs.Lamp.{SoundLamp, dark, level_of, apart, turned, passed}

@@ -1,6 +1,6 @@
 -- What the hub keeps of a lamp at a moment is what the meaning's lamp shows then: by the gap that is left of the way from its last target on.
 use Prim.Native.Nat.{ℕ, ◌+◌, ◌-◌, ◌*◌, ◌≤◌}
-use mathlib.Core.Path.{◌≡◌, refl, sym, ap}
+use mathlib.Core.Path.{◌≡◌, refl, ap}
 use mathlib.Core.Bool.{true, cond}
 use native.Mathlib.Nat.{mul-add}
 use native.Mathlib.Omega.{arith}

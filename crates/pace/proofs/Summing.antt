@@ -10,7 +10,7 @@ use Rattle.words.specs.declared.Pair.{Pair}
 use Rattle.words.specs.Pairs.{counts_of, counts_in}
 use Rattle.words.proofs.Pairs.{counts_between}
 use Rattle.meaning.specs.Time.{lasts}
-use Rattle.pace.specs.Pace.{periods_of, periods}
+use Rattle.pace.specs.Pace.{periods_of}
 
 -- the sum, with what is left of the counts, is what they all last
 pub record Summing (counts : List ℕ) (start end sum i : ℕ) : Type 0 where

@@ -1,6 +1,5 @@
 use borrow.Author.Tests.{lt-ltb, le-ltb}
 use Rattle.lamp.specs.Lamp.{apart}
-use borrow.Author.Rules.{rules}
 use Rattle.lamp.proofs.apart.Goals as goal
 
 pub returns-then-a-b : goal.returns-then-a-b

@@ -1,7 +1,6 @@
 use native.Mathlib.Omega.{arith}
 use mathlib.Core.Path.{ap}
 use Rattle.lamp.specs.Lamp.{points}
-use borrow.Author.Rules.{rules}
 use Rattle.lamp.proofs.remaining.Goals as goal
 
 pub returns-then-before-way : goal.returns-then-before-way

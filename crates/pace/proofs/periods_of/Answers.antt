@@ -2,7 +2,7 @@ use Prim.Native.Nat.{◌*◌, ◌-◌}
 use mathlib.Core.Path.{◌≡◌, ap}
 use native.Mathlib.Omega.{arith}
 use Rattle.pace.specs.Pace.{periods}
-use Rattle.pace.proofs.Summing.{Summing, summing_start, summing_more, summing_end}
+use Rattle.pace.proofs.Summing.{summing_start, summing_more, summing_end}
 use borrow.Author.Rules.{rules}
 use Rattle.pace.proofs.periods_of.Goals as goal
 

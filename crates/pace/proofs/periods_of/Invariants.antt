@@ -1,9 +1,5 @@
 use Prim.Native.Nat.{◌*◌, ◌-◌}
-use mathlib.Core.Path.{◌≡◌, ap}
-use native.Mathlib.Omega.{arith}
-use Rattle.pace.specs.Pace.{periods}
-use Rattle.pace.proofs.Summing.{Summing, summing_start, summing_more, summing_end}
-use borrow.Author.Rules.{rules}
+use Rattle.pace.proofs.Summing.{Summing}
 use Rattle.pace.proofs.periods_of.Given as goal
 
 abbrev pub invariant-loop-i : goal.invariant-loop-i

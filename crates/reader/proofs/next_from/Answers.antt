@@ -1,6 +1,5 @@
 use mathlib.Core.Path.{sym, ◌∙◌}
 use Rattle.reader.proofs.Pieces.{standing_sound, handed_is}
-use borrow.Author.Rules.{rules}
 use Rattle.reader.proofs.next_from.Goals as goal
 
 pub pair_handed-requires : goal.pair_handed-requires

@@ -1,7 +1,6 @@
-use mathlib.Core.Path.{◌≡◌, sym, ◌∙◌}
+use mathlib.Core.Path.{◌≡◌, sym}
 use native.Mathlib.Omega.{arith}
-use lib.ListN.{length, length-map, get_or-eq_default}
-use borrow.Author.Rules.{rules}
+use lib.ListN.{length, get_or-eq_default}
 use Rattle.reader.proofs.pair_of.Goals as goal
 
 pub returns-else-i-lt-LETTERS : goal.returns-else-i-lt-LETTERS

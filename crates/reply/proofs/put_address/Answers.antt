@@ -1,7 +1,6 @@
 use native.Mathlib.Omega.{arith}
 use Rattle.laws.proofs.Put.{then}
 use Rattle.text.proofs.Decimals.{decimal_most}
-use borrow.Author.Rules.{rules}
 use Rattle.reply.proofs.put_address.Goals as goal
 
 pub put_number-b-requires : goal.put_number-b-requires

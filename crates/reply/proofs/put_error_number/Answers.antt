@@ -6,7 +6,6 @@ use native.Mathlib.Omega.{arith}
 use lib.ListN.{length, set, length-set}
 use Rattle.laws.specs.Put.{Put}
 use Rattle.laws.proofs.Put.{stored, then}
-use borrow.Author.Rules.{rules}
 use Rattle.reply.proofs.put_error_number.Goals as goal
 
 three : (b : List ℕ) (at x y z : ℕ) → at + 3 ≤ length b → Put b at (x ∷ y ∷ z ∷ []) (set (set (set b at x) (at + 1) y) (at + 2) z) (at + 3)

@@ -1,4 +1,3 @@
-use borrow.Author.Rules.{rules}
 use Rattle.reply.proofs.put_mode.Goals as goal
 
 pub returns-in-Ir : goal.returns-in-Ir

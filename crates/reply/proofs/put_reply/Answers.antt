@@ -1,6 +1,5 @@
 use Rattle.laws.proofs.Put.{then}
 use Rattle.reply.specs.Reply.{reply_text}
-use borrow.Author.Rules.{rules}
 use Rattle.reply.proofs.put_reply.Goals as goal
 
 pub returns-in-Fixed : goal.returns-in-Fixed

@@ -1,7 +1,6 @@
 use mathlib.Core.Path.{sym, ◌∙◌}
 use borrow.Author.Tests.{le-leb, lt-leb, eq-eqb, ne_eqb}
 use Rattle.code.specs.Next.{next_pair}
-use borrow.Author.Rules.{rules}
 use Rattle.code.proofs.next.next_pair.Goals as goal
 use Rattle.code.proofs.next.next_pair.Goals.{in-Nothing, in-Spelling+else-b-ne44, in-Lettering}
 
@@ -24,7 +23,7 @@ returns c =
     let past = lt-leb _ _ c.if-s-at.false in
     let other = sym c.is_letter.ensures ∙ c.if-is_letter.false in
     elim c.match-after.branch [
-      in-Nothing w ↦ rw (past, other, w.in-Nothing.is) (rw w.begin-is at c.begun_at.ensures)
-    | in-Spelling+else-b-ne44 w ↦ rw (past, other, w.in-Spelling.is, eq-eqb _ _ w.if-b-ne44.false) (rw w.begin-is at c.begun_at.ensures)
-    | in-Lettering w ↦ rw (past, other, w.in-Lettering.is) (rw w.begin-is at c.begun_at.ensures)
+      | in-Nothing w ↦ rw (past, other, w.in-Nothing.is) (rw w.begin-is at c.begun_at.ensures)
+      | in-Spelling+else-b-ne44 w ↦ rw (past, other, w.in-Spelling.is, eq-eqb _ _ w.if-b-ne44.false) (rw w.begin-is at c.begun_at.ensures)
+      | in-Lettering w ↦ rw (past, other, w.in-Lettering.is) (rw w.begin-is at c.begun_at.ensures)
     ]

@@ -5,7 +5,6 @@ use Rattle.text.proofs.Limits.{good_most}
 use Rattle.command.specs.Fields.{fields_at}
 use Rattle.command.proofs.Capping.{capped_high}
 use Rattle.command.proofs.Sending.{freq_at, repeat_at, offset_at}
-use borrow.Author.Rules.{rules}
 use Rattle.command.proofs.fields.fields_at.Goals as goal
 
 pub returns-in_default : goal.returns-in_default

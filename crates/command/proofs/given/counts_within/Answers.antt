@@ -1,12 +1,8 @@
-use Prim.Native.Nat.{◌-◌}
-use mathlib.Core.Path.{◌≡◌, refl, sym, ◌∙◌}
-use borrow.Author.Tests.{lt-ltb, le-ltb, eq-eqb, ne_eqb, not-true, not-false}
-use lib.ListN.{drop}
-use Rattle.laws.specs.Lists.{all}
+use mathlib.Core.Path.{refl, sym, ◌∙◌}
+use borrow.Author.Tests.{lt-ltb, le-ltb, eq-eqb, ne_eqb}
 use Rattle.laws.proofs.Lists.{all_more, all_stop, all_done}
 use Rattle.code.specs.Limits.{legal}
 use Rattle.command.specs.Given.{counts_within}
-use borrow.Author.Rules.{rules}
 use Rattle.command.proofs.given.counts_within.Goals as goal
 
 pub returns-then-count-lt2 : goal.returns-then-count-lt2

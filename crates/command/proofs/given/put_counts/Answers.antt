@@ -1,8 +1,6 @@
-use Prim.Native.Nat.{◌-◌, ◌≤◌}
-use mathlib.Core.Path.{◌≡◌, refl, sym, ◌∙◌}
+use mathlib.Core.Path.{refl, sym, ◌∙◌}
 use native.Mathlib.Omega.{arith}
-use lib.ListN.{length, drop, drop_of_length-le}
-use lib.Seq.{sets}
+use lib.ListN.{drop_of_length-le}
 use Rattle.laws.proofs.Put.{copy_more}
 use borrow.Author.Rules.{rules}
 use Rattle.command.proofs.given.put_counts.Goals as goal

@@ -1,10 +1,7 @@
 use Prim.Native.Nat.{◌-◌, ◌≤◌}
-use mathlib.Core.Path.{◌≡◌, refl, sym, ◌∙◌}
-use native.Mathlib.Omega.{arith}
-use lib.ListN.{length, drop, drop_of_length-le}
+use mathlib.Core.Path.{◌≡◌}
+use lib.ListN.{length, drop}
 use lib.Seq.{sets}
-use Rattle.laws.proofs.Put.{copy_more}
-use borrow.Author.Rules.{rules}
 use Rattle.command.proofs.given.put_counts.Given as goal
 
 abbrev pub invariant-loop-i : goal.invariant-loop-i

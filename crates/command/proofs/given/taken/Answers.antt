@@ -1,7 +1,6 @@
 use native.Mathlib.Omega.{arith}
 use Rattle.command.proofs.Capping.{capped_high}
 use Rattle.command.proofs.Giving.{fields_in}
-use borrow.Author.Rules.{rules}
 use Rattle.command.proofs.given.taken.Goals as goal
 
 pub overflow_cast-id : goal.overflow_cast-id

@@ -1,7 +1,6 @@
 use mathlib.Core.Path.{sym, ◌∙◌}
 use Rattle.command.specs.Read.{command_at}
 use Rattle.command.proofs.Commands.{nothing_found}
-use borrow.Author.Rules.{rules}
 use Rattle.command.proofs.read.command_at.Goals as goal
 
 pub returns-in-Fault : goal.returns-in-Fault

@@ -1,7 +1,6 @@
 use mathlib.Core.Path.{sym, ◌∙◌}
 use native.Mathlib.Omega.{arith}
 use Rattle.composer.proofs.Composing.{neither_refused, nothing_composed, composed}
-use borrow.Author.Rules.{rules}
 use Rattle.composer.proofs.compose.compose.Goals as goal
 
 pub returns-then-number-ne0 : goal.returns-then-number-ne0

@@ -3,7 +3,6 @@ use Rattle.laws.proofs.Choice.{clash}
 use Rattle.laws.proofs.Put.{then}
 use Rattle.composer.proofs.Composing.{neither_refused, nothing_composed, composed}
 use Rattle.composer.proofs.Sending.{sendir_written, written_put, cr_fits}
-use borrow.Author.Rules.{rules}
 use Rattle.composer.proofs.compose.compose_sendir.Goals as goal
 
 pub returns-then-number-ne0 : goal.returns-then-number-ne0

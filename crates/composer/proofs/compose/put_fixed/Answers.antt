@@ -1,4 +1,3 @@
-use borrow.Author.Rules.{rules}
 use Rattle.composer.proofs.compose.put_fixed.Goals as goal
 
 pub returns-in-Devices : goal.returns-in-Devices

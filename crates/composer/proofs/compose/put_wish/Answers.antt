@@ -1,7 +1,6 @@
 use mathlib.Core.List.{append_assoc}
 use Rattle.laws.proofs.Put.{then}
 use Rattle.composer.specs.Compose.{wish_text}
-use borrow.Author.Rules.{rules}
 use Rattle.composer.proofs.compose.put_wish.Goals as goal
 
 pub returns-in-Fixed : goal.returns-in-Fixed

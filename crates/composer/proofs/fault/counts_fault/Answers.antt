@@ -1,10 +1,7 @@
-use Prim.Native.Nat.{◌-◌}
 use mathlib.Core.Path.{sym, ◌∙◌}
-use borrow.Author.Tests.{eq-eqb, not-true, not-false}
-use lib.ListN.{length}
+use borrow.Author.Tests.{eq-eqb}
 use Rattle.composer.specs.Fault.{counts_fault}
-use Rattle.composer.proofs.Faults.{Passed, none_passed, too_many, one_more, illegal, paired, last_alone}
-use borrow.Author.Rules.{rules}
+use Rattle.composer.proofs.Faults.{none_passed, too_many, one_more, illegal, paired, last_alone}
 use Rattle.composer.proofs.fault.counts_fault.Goals as goal
 
 pub returns-then-counts-eq0 : goal.returns-then-counts-eq0

@@ -1,6 +1,5 @@
 use borrow.Author.Tests.{le-leb, lt-leb, eq-eqb, ne_eqb}
 use Rattle.composer.specs.Fault.{sendir_fault}
-use borrow.Author.Rules.{rules}
 use Rattle.composer.proofs.fault.sendir_fault.Goals as goal
 
 pub returns-then-place-ne0 : goal.returns-then-place-ne0

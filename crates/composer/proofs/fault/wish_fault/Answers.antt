@@ -1,6 +1,5 @@
 use borrow.Author.Tests.{lt-ltb, le-ltb, eq-eqb, ne_eqb}
 use Rattle.composer.specs.Fault.{wish_fault}
-use borrow.Author.Rules.{rules}
 use Rattle.composer.proofs.fault.wish_fault.Goals as goal
 
 pub returns-then-fault-ne0 : goal.returns-then-fault-ne0

@@ -1,4 +1,3 @@
-use borrow.Author.Rules.{rules}
 use Rattle.connector.proofs.Connector.fresh.Goals as goal
 
 pub returns : goal.returns

@@ -2,7 +2,6 @@ use Prim.Native.Nat.{◌*◌, ◌≤◌}
 use native.Mathlib.Omega.{arith}
 use lib.ListN.{length}
 use Rattle.words.proofs.Standing.{counts_first}
-use borrow.Author.Rules.{rules}
 use Rattle.connector.proofs.carrier.carrier_of.Goals as goal
 
 pub place-place-requires : goal.place-place-requires

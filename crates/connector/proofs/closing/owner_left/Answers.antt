@@ -1,6 +1,5 @@
 use mathlib.Core.Path.{sym, ◌∙◌}
 use Rattle.connector.specs.Change.{owner_left}
-use borrow.Author.Rules.{rules}
 use Rattle.connector.proofs.closing.owner_left.Goals as goal
 
 pub returns-then-owns : goal.returns-then-owns

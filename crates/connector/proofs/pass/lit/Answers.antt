@@ -1,6 +1,5 @@
 use borrow.Author.Tests.{eq-eqb, ne_eqb}
 use Rattle.connector.specs.Pass.{passing_lamp}
-use borrow.Author.Rules.{rules}
 use Rattle.connector.proofs.pass.lit.Goals as goal
 
 pub returns-then-lamp-eq0 : goal.returns-then-lamp-eq0

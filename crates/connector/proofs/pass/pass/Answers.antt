@@ -1,7 +1,6 @@
 use mathlib.Core.Path.{sym, ap, ◌∙◌}
 use native.Mathlib.Omega.{arith}
 use Rattle.connector.specs.Pass.{passing_sending}
-use borrow.Author.Rules.{rules}
 use Rattle.connector.proofs.pass.pass.Goals as goal
 
 pub passed-requires : goal.passed-requires

@@ -1,7 +1,6 @@
 use mathlib.Core.Path.{sym, ◌∙◌}
-use borrow.Author.Tests.{not-true, not-false, lt-ltb, le-ltb}
+use borrow.Author.Tests.{lt-ltb, le-ltb}
 use Rattle.connector.specs.Reading.{reading_step}
-use borrow.Author.Rules.{rules}
 use Rattle.connector.proofs.reading.reading.Goals as goal
 
 pub returns-then-not-is_sensor : goal.returns-then-not-is_sensor

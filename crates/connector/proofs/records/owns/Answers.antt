@@ -1,4 +1,3 @@
-use borrow.Author.Rules.{rules}
 use Rattle.connector.proofs.records.owns.Goals as goal
 
 pub returns-in-Connection : goal.returns-in-Connection

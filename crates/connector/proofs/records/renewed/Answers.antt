@@ -1,4 +1,3 @@
-use borrow.Author.Rules.{rules}
 use Rattle.connector.proofs.records.renewed.Goals as goal
 
 pub renewed-pace-requires : goal.renewed-pace-requires

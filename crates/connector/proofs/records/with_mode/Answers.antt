@@ -1,6 +1,5 @@
 use mathlib.Core.Path.{sym, ◌∙◌}
 use Rattle.connector.specs.Change.{with_mode}
-use borrow.Author.Rules.{rules}
 use Rattle.connector.proofs.records.with_mode.Goals as goal
 
 pub returns-then-same_mode : goal.returns-then-same_mode

@@ -1,9 +1,7 @@
 use mathlib.Core.Path.{sym, ◌∙◌}
 use native.Mathlib.Omega.{arith}
-use borrow.Author.Tests.{not-false}
 use Rattle.code.proofs.Smallest.{legal_is}
 use Rattle.decoder.proofs.Shorts.{quick_is}
-use borrow.Author.Rules.{rules}
 use Rattle.decoder.proofs.quick.quick_at.Goals as goal
 
 pub overflow_cast-result : goal.overflow_cast-result

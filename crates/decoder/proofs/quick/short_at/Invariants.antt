@@ -1,13 +1,7 @@
-use Prim.Native.Nat.{ℕ, ◌+◌, ◌-◌, ◌*◌, ◌≤◌, ◌<◌}
-use mathlib.Core.Bool.{true}
-use mathlib.Core.Path.{◌≡◌, refl, sym, ap, ◌∙◌}
-use native.Mathlib.Omega.{arith}
+use Prim.Native.Nat.{◌+◌, ◌-◌, ◌≤◌}
+use mathlib.Core.Path.{◌≡◌}
 use lib.ListN.{length, get_or}
-use borrow.Author.Tests.{not-true, not-false}
-use Rattle.words.specs.Digits.{is_digit}
-use Rattle.text.proofs.Reading.{digit_range}
-use Rattle.decoder.proofs.Shorts.{Shortly, shortly_start, shortly_small, shortly_more, shortly_stop}
-use borrow.Author.Rules.{rules}
+use Rattle.decoder.proofs.Shorts.{Shortly}
 use Rattle.decoder.proofs.quick.short_at.Given as goal
 
 abbrev pub invariant-loop-i : goal.invariant-loop-i

@@ -1,6 +1,5 @@
 use mathlib.Core.Path.{sym, ◌∙◌}
 use Rattle.decoder.specs.Follows.{lags}
-use borrow.Author.Rules.{rules}
 use Rattle.decoder.proofs.read.lags.Goals as goal
 
 pub returns-then-is_letter : goal.returns-then-is_letter

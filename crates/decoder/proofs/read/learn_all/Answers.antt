@@ -1,13 +1,10 @@
 use Prim.Native.Nat.{◌-◌}
 use mathlib.Core.Path.{◌≡◌, refl, sym, ◌∙◌}
 use native.Mathlib.Omega.{arith}
-use lib.ListN.{length, length-map}
+use lib.ListN.{length}
 use Rattle.words.specs.Pairs.{pair}
-use Rattle.code.specs.Letters.{letters_of, held, Kept}
-use Rattle.decoder.specs.Follows.{pairs_at}
 use Rattle.code.proofs.Lettering.{kept_held}
 use Rattle.decoder.proofs.Follows.{learn_turn}
-use borrow.Author.Rules.{rules}
 use Rattle.decoder.proofs.read.learn_all.Goals as goal
 
 pub loop-i-init : goal.loop-i-init

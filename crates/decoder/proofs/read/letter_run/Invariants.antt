@@ -1,18 +1,8 @@
-use Prim.Native.Nat.{ℕ, ◌+◌, ◌-◌, ◌<◌, ◌≤◌}
-use mathlib.Core.Path.{◌≡◌, sym, ◌∙◌}
-use mathlib.Core.Bool.{true}
-use native.Mathlib.Omega.{arith}
-use borrow.Author.Tests.{not-false}
-use lib.ListN.{length, length-map, get_or}
-use lib.Seq.{get_or-take, length-take-le}
-use Rattle.words.specs.Pairs.{pair}
+use Prim.Native.Nat.{ℕ, ◌+◌, ◌-◌, ◌≤◌}
+use lib.ListN.{length}
 use Rattle.code.specs.declared.next.After.TheVariants.{Lettering}
 use Rattle.code.specs.Letters.{held}
-use Rattle.code.specs.Next.{is_letter}
 use Rattle.decoder.specs.Follows.{Follows}
-use Rattle.code.proofs.Nexts.{letter_low, letter_high}
-use Rattle.decoder.proofs.Follows.{run_none, run_more}
-use borrow.Author.Rules.{rules}
 use Rattle.decoder.proofs.read.letter_run.Given as goal
 
 abbrev pub invariant-loop-more : goal.invariant-loop-more

@@ -1,5 +1,4 @@
 use native.Mathlib.Numerals.{add-one}
-use borrow.Author.Rules.{rules}
 use Rattle.decoder.proofs.read.put_pair.Goals as goal
 
 pub returns : goal.returns

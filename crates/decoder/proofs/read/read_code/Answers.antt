@@ -1,11 +1,11 @@
-use Prim.Native.Nat.{◌+◌, ◌-◌, ◌*◌, ◌<◌}
+use Prim.Native.Nat.{◌<◌}
 use mathlib.Core.Path.{◌≡◌, sym, ◌∙◌}
 use mathlib.Core.Bool.{false}
 use mathlib.Core.List.{[]}
 use native.Mathlib.Omega.{arith}
 use lib.ListN.{length}
 use Rattle.decoder.specs.Follows.{lags}
-use Rattle.decoder.proofs.Reading.{Going, lagging, going_start, going_room, going_learnt, going_end, going_fault, going_spelled, going_letter, going_sound}
+use Rattle.decoder.proofs.Reading.{lagging, going_start, going_room, going_learnt, going_end, going_fault, going_spelled, going_letter, going_sound}
 use borrow.Author.Rules.{rules}
 use Rattle.decoder.proofs.read.read_code.Goals as goal
 

@@ -1,11 +1,6 @@
-use Prim.Native.Nat.{◌-◌}
 use mathlib.Core.Path.{◌≡◌, subst}
-use mathlib.Core.List.{List}
 use lib.ListN.{length}
-use Rattle.words.specs.declared.Pair.{Pair}
-use Rattle.code.specs.declared.next.After.TheVariants.{Spelling}
 use Rattle.decoder.specs.Quick.{QuickAt}
-use Rattle.decoder.specs.Follows.{Follows}
 use Rattle.decoder.proofs.Follows.{follows_none, follows_then, follows_spelled}
 use borrow.Author.Rules.{rules}
 use Rattle.decoder.proofs.read.spelled_run.Goals as goal

@@ -1,5 +1,4 @@
 use borrow.Author.Tests.{eq-eqb, ne_eqb}
-use borrow.Author.Rules.{rules}
 use Rattle.hearing.specs.Guess.{device_guess}
 use Rattle.hearing.proofs.guess.device_guess.Goals as goal
 

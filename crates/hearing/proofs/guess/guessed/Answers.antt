@@ -1,5 +1,4 @@
 use borrow.Author.Tests.{eq-eqb, ne_eqb}
-use borrow.Author.Rules.{rules}
 use Rattle.hearing.specs.Guess.{guessed}
 use Rattle.hearing.proofs.guess.guessed.Goals as goal
 

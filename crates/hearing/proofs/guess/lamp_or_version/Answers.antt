@@ -1,6 +1,5 @@
 use mathlib.Core.Path.{sym, ◌∙◌}
 use borrow.Author.Tests.{eq-eqb, ne_eqb}
-use borrow.Author.Rules.{rules}
 use Rattle.hearing.specs.Guess.{lamp_or_version}
 use Rattle.hearing.proofs.guess.lamp_or_version.Goals as goal
 

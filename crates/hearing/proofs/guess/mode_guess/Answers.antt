@@ -1,5 +1,4 @@
 use mathlib.Core.Path.{sym, ◌∙◌}
-use borrow.Author.Rules.{rules}
 use Rattle.hearing.specs.Guess.{mode_guess}
 use Rattle.hearing.proofs.guess.mode_guess.Goals as goal
 

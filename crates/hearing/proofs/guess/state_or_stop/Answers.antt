@@ -1,5 +1,4 @@
 use borrow.Author.Tests.{eq-eqb, ne_eqb}
-use borrow.Author.Rules.{rules}
 use Rattle.hearing.specs.Guess.{state_or_stop}
 use Rattle.hearing.proofs.guess.state_or_stop.Goals as goal
 

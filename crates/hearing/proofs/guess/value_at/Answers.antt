@@ -1,5 +1,4 @@
 use mathlib.Core.Path.{sym, ◌∙◌}
-use borrow.Author.Rules.{rules}
 use Rattle.hearing.specs.Guess.{value_at}
 use Rattle.hearing.proofs.guess.value_at.Goals as goal
 

@@ -1,4 +1,3 @@
-use borrow.Author.Rules.{rules}
 use Rattle.hearing.proofs.read.is_device.Goals as goal
 
 pub returns-in-Ethernet : goal.returns-in-Ethernet

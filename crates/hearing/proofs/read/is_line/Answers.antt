@@ -1,5 +1,4 @@
 use mathlib.Core.Path.{refl, ◌∙◌}
-use borrow.Author.Rules.{rules}
 use Rattle.laws.proofs.Choice.{not_both}
 use Rattle.logger.specs.Heard.{writable, line_of}
 use Rattle.hearing.proofs.Meant.{line_is}

@@ -1,6 +1,5 @@
 use mathlib.Core.Path.{sym, ◌∙◌}
 use native.Mathlib.Omega.{arith}
-use borrow.Author.Rules.{rules}
 use lib.Seq.{length-take-le}
 use Rattle.laws.proofs.Put.{put_length}
 use Rattle.hearing.proofs.Texts.{put_some, put_line}

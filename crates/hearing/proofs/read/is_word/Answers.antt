@@ -1,9 +1,6 @@
-use Prim.Native.Nat.{◌-◌}
 use mathlib.Core.Path.{refl}
 use native.Mathlib.Omega.{arith}
-use borrow.Author.Rules.{rules}
-use lib.ListN.{length}
-use Rattle.hearing.proofs.Loops.{Alike, other_length, alike_more, alike_other, alike_end}
+use Rattle.hearing.proofs.Loops.{other_length, alike_more, alike_other, alike_end}
 use Rattle.hearing.proofs.read.is_word.Goals as goal
 
 pub returns-then-s-w : goal.returns-then-s-w

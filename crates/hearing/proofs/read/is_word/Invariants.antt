@@ -1,9 +1,6 @@
 use Prim.Native.Nat.{◌-◌}
-use mathlib.Core.Path.{refl}
-use native.Mathlib.Omega.{arith}
-use borrow.Author.Rules.{rules}
 use lib.ListN.{length}
-use Rattle.hearing.proofs.Loops.{Alike, other_length, alike_more, alike_other, alike_end}
+use Rattle.hearing.proofs.Loops.{Alike}
 use Rattle.hearing.proofs.read.is_word.Given as goal
 
 abbrev pub invariant-loop-i : goal.invariant-loop-i

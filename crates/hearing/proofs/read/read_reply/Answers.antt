@@ -1,5 +1,4 @@
 use mathlib.Core.Path.{sym, ◌∙◌}
-use borrow.Author.Rules.{rules}
 use Rattle.hearing.proofs.Texts.{hears_unwritable, hears_other, hears_same}
 use Rattle.hearing.proofs.read.read_reply.Goals as goal
 

@@ -1,5 +1,4 @@
 use native.Mathlib.Omega.{arith}
-use borrow.Author.Rules.{rules}
 use Rattle.hub.proofs.Hub.applied.Goals as goal
 
 pub bounds-next-slot : goal.bounds-next-slot

@@ -1,6 +1,5 @@
 use borrow.Author.Tests.{lt-ltb, le-ltb}
 use Rattle.hub.specs.Calls.{closed_call}
-use borrow.Author.Rules.{rules}
 use Rattle.hub.proofs.Hub.closed.Goals as goal
 
 pub returns-then-connection-gt-MOST_CONNECTION : goal.returns-then-connection-gt-MOST_CONNECTION

@@ -4,7 +4,6 @@ use Rattle.laws.proofs.Put.{over_nothing}
 use Rattle.request.proofs.Accepted.{within}
 use Rattle.hub.specs.Line.{line_step}
 use Rattle.hub.proofs.Answering.{answers}
-use borrow.Author.Rules.{rules}
 use Rattle.hub.proofs.Hub.line.Goals as goal
 
 pub returns-then-connection-gt-MOST_CONNECTION : goal.returns-then-connection-gt-MOST_CONNECTION

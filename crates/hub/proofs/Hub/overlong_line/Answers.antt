@@ -2,7 +2,6 @@ use mathlib.Core.Path.{sym}
 use Rattle.laws.proofs.Put.{over_nothing}
 use borrow.Author.Tests.{lt-ltb, le-ltb}
 use Rattle.hub.specs.Line.{overlong_step}
-use borrow.Author.Rules.{rules}
 use Rattle.hub.proofs.Hub.overlong_line.Goals as goal
 
 pub returns-then-connection-gt-MOST_CONNECTION : goal.returns-then-connection-gt-MOST_CONNECTION

@@ -1,6 +1,5 @@
 use borrow.Author.Tests.{lt-ltb, le-ltb}
 use Rattle.hub.specs.Calls.{reading_call}
-use borrow.Author.Rules.{rules}
 use Rattle.hub.proofs.Hub.reading.Goals as goal
 
 pub returns-then-port-lt1 : goal.returns-then-port-lt1

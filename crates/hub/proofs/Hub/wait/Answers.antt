@@ -1,6 +1,5 @@
 use borrow.Author.Tests.{lt-ltb, le-ltb}
 use Rattle.hub.specs.Wait.{wait_call}
-use borrow.Author.Rules.{rules}
 use Rattle.hub.proofs.Hub.wait.Goals as goal
 
 pub returns-then-n-gt-MOST_WAIT : goal.returns-then-n-gt-MOST_WAIT

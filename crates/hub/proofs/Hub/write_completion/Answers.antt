@@ -1,6 +1,5 @@
 use native.Mathlib.Nat.{zero-add}
 use borrow.Author.Tests.{lt-ltb, le-ltb}
-use borrow.Author.Rules.{rules}
 use Rattle.hub.proofs.Hub.write_completion.Goals as goal
 
 pub returns-then-buf-lt-ROOM : goal.returns-then-buf-lt-ROOM

@@ -1,7 +1,6 @@
 use mathlib.Core.Path.{refl, sym}
 use native.Mathlib.Nat.{zero-add}
 use Rattle.laws.proofs.Put.{over_nothing}
-use borrow.Author.Rules.{rules}
 use Rattle.hub.proofs.answers.put_answer.Goals as goal
 
 pub returns-in-Refused : goal.returns-in-Refused

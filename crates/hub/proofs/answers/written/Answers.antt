@@ -1,4 +1,3 @@
-use borrow.Author.Rules.{rules}
 use Rattle.hub.proofs.answers.written.Goals as goal
 
 pub returns : goal.returns

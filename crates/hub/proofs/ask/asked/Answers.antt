@@ -2,7 +2,6 @@ use mathlib.Core.Path.{refl, ap, ◌∙◌}
 use native.Mathlib.Omega.{arith}
 use Rattle.request.specs.Accepted.{ConnectorAt, RelayAt, AskWithin}
 use Rattle.hub.specs.Line.{placed}
-use borrow.Author.Rules.{rules}
 use Rattle.hub.proofs.ask.asked.Goals as goal
 
 pub overflow_sub-slot : goal.overflow_sub-slot

@@ -1,4 +1,3 @@
-use borrow.Author.Rules.{rules}
 use Rattle.hub.proofs.ask.relay_step.Goals as goal
 
 pub returns-in-Get : goal.returns-in-Get

@@ -5,7 +5,6 @@ use Rattle.steps.specs.Step.{step_of}
 use Rattle.steps.proofs.Keeps.{step_size}
 use Rattle.hub.specs.Record.{part_size}
 use Rattle.hub.proofs.Parts.{stepped_in}
-use borrow.Author.Rules.{rules}
 use Rattle.hub.proofs.ask.step_in.Goals as goal
 
 pub returns : goal.returns

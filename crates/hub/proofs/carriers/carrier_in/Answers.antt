@@ -2,7 +2,6 @@ use Prim.Native.Nat.{◌+◌, ◌-◌}
 use mathlib.Core.Path.{◌≡◌}
 use native.Mathlib.Omega.{arith}
 use Rattle.hub.specs.Record.{part_size}
-use borrow.Author.Rules.{rules}
 use Rattle.hub.proofs.carriers.carrier_in.Goals as goal
 
 pub returns : goal.returns

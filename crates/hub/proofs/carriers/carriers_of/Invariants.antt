@@ -1,16 +1,9 @@
-use Prim.Native.Nat.{ℕ, ◌-◌, ◌≤◌}
-use mathlib.Core.Path.{◌≡◌, refl}
-use mathlib.Core.Bool.{Bool}
-use mathlib.Core.List.{List}
-use native.Mathlib.Omega.{arith}
+use Prim.Native.Nat.{◌-◌, ◌≤◌}
+use mathlib.Core.Path.{◌≡◌}
 use lib.ListN.{length}
-use Rattle.laws.proofs.Slots.{turned, each_set, each_all}
+use Rattle.laws.proofs.Slots.{turned}
 use Rattle.words.specs.Places.{connectors}
-use Rattle.connector.specs.declared.Connector.{Connector}
-use Rattle.connector.specs.Carrier.{carrier_of}
-use Rattle.hub.specs.Record.{in_slot, kept_at}
 use Rattle.hub.specs.Calls.{all_carriers}
-use borrow.Author.Rules.{rules}
 use Rattle.hub.proofs.carriers.carriers_of.Given as goal
 
 abbrev pub invariant-loop-slot : goal.invariant-loop-slot

@@ -1,14 +1,12 @@
-use Prim.Native.Nat.{ℕ, ◌-◌, ◌≤◌}
-use mathlib.Core.Path.{◌≡◌, refl, ap, ◌∙◌}
+use Prim.Native.Nat.{ℕ}
+use mathlib.Core.Path.{refl, ap, ◌∙◌}
 use mathlib.Core.List.{List}
 use native.Mathlib.Omega.{arith}
-use Rattle.laws.proofs.Slots.{turned, each_at, each_set, each_all}
+use Rattle.laws.proofs.Slots.{each_at, each_set, each_all}
 use Rattle.words.specs.Places.{connectors}
 use Rattle.connector.specs.declared.Connector.{Connector}
 use Rattle.connector.specs.Change.{disowned}
 use Rattle.hub.specs.Record.{in_slot}
-use Rattle.hub.specs.Calls.{all_disowned}
-use borrow.Author.Rules.{rules}
 use Rattle.hub.proofs.closing.disowned.Goals as goal
 
 -- the connector in a slot afterwards

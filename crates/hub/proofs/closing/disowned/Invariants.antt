@@ -1,14 +1,8 @@
-use Prim.Native.Nat.{ℕ, ◌-◌, ◌≤◌}
-use mathlib.Core.Path.{◌≡◌, refl, ap, ◌∙◌}
-use mathlib.Core.List.{List}
-use native.Mathlib.Omega.{arith}
-use Rattle.laws.proofs.Slots.{turned, each_at, each_set, each_all}
+use Prim.Native.Nat.{◌-◌, ◌≤◌}
+use mathlib.Core.Path.{◌≡◌}
+use Rattle.laws.proofs.Slots.{turned}
 use Rattle.words.specs.Places.{connectors}
-use Rattle.connector.specs.declared.Connector.{Connector}
-use Rattle.connector.specs.Change.{disowned}
-use Rattle.hub.specs.Record.{in_slot}
 use Rattle.hub.specs.Calls.{all_disowned}
-use borrow.Author.Rules.{rules}
 use Rattle.hub.proofs.closing.disowned.Given as goal
 
 abbrev pub invariant-loop-slot : goal.invariant-loop-slot

@@ -1,15 +1,9 @@
-use Prim.Native.Nat.{ℕ, ◌-◌, ◌≤◌}
-use mathlib.Core.Path.{◌≡◌, refl}
-use mathlib.Core.List.{List}
-use native.Mathlib.Omega.{arith}
+use Prim.Native.Nat.{◌-◌, ◌≤◌}
+use mathlib.Core.Path.{◌≡◌}
 use lib.ListN.{length}
-use Rattle.laws.proofs.Slots.{turned, each_set, each_all}
+use Rattle.laws.proofs.Slots.{turned}
 use Rattle.words.specs.Places.{connectors}
-use Rattle.connector.specs.declared.Connector.{Connector}
-use Rattle.lamp.specs.Lamp.{percent_of}
-use Rattle.hub.specs.Record.{in_slot}
 use Rattle.hub.specs.Calls.{all_levels}
-use borrow.Author.Rules.{rules}
 use Rattle.hub.proofs.levels.levels_of.Given as goal
 
 abbrev pub invariant-loop-slot : goal.invariant-loop-slot

@@ -1,11 +1,10 @@
-use Prim.Native.Nat.{◌-◌, ◌<◌}
+use Prim.Native.Nat.{◌<◌}
 use mathlib.Core.Path.{◌≡◌, ◌∙◌}
 use native.Mathlib.Omega.{arith}
 use lib.ListN.{length}
 use Rattle.words.specs.Places.{connectors}
 use Rattle.hub.specs.Wait.{passing_at}
-use Rattle.hub.proofs.Waiting.{Waiting, waiting_starts, waiting_at, waiting_asks, waiting_still, waiting_runs, waiting_done, waiting_ends}
-use borrow.Author.Rules.{rules}
+use Rattle.hub.proofs.Waiting.{waiting_starts, waiting_at, waiting_asks, waiting_still, waiting_runs, waiting_done, waiting_ends}
 use Rattle.hub.proofs.wait.passed.Goals as goal
 
 pub loop-slot-init : goal.loop-slot-init

@@ -1,6 +1,5 @@
 use native.Mathlib.Omega.{arith}
 use Rattle.lamp.specs.Lamp.{level_of}
-use borrow.Author.Rules.{rules}
 use Rattle.lamp.proofs.Lamp.level.Goals as goal
 
 pub overflow_sub-result : goal.overflow_sub-result

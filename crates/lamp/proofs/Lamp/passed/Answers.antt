@@ -2,7 +2,6 @@ use Prim.Native.Nat.{◌*◌, ◌≤◌}
 use native.Mathlib.Nat.{mul-le-mul}
 use native.Mathlib.Omega.{arith}
 use Rattle.lamp.specs.Lamp.{passed}
-use borrow.Author.Rules.{rules}
 use Rattle.lamp.proofs.Lamp.passed.Goals as goal
 
 pub overflow_mul-way : goal.overflow_mul-way

@@ -1,5 +1,4 @@
 use Rattle.lamp.specs.Lamp.{percent_of}
-use borrow.Author.Rules.{rules}
 use Rattle.lamp.proofs.Lamp.percent.Goals as goal
 
 pub returns : goal.returns

@@ -1,6 +1,5 @@
 use borrow.Author.Tests.{eq-eqb, ne_eqb}
 use Rattle.lamp.specs.Lamp.{turned}
-use borrow.Author.Rules.{rules}
 use Rattle.lamp.proofs.Lamp.turned.Goals as goal
 
 pub returns-then-ramp-eq0 : goal.returns-then-ramp-eq0

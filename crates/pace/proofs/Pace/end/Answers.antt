@@ -2,7 +2,6 @@ use mathlib.Core.Path.{refl}
 use native.Mathlib.Omega.{arith}
 use Rattle.pace.specs.Pace.{end_of}
 use Rattle.pace.proofs.Bounds.{copies_high}
-use borrow.Author.Rules.{rules}
 use Rattle.pace.proofs.Pace.end.Goals as goal
 
 pub overflow_mul-result : goal.overflow_mul-result

@@ -3,7 +3,6 @@ use borrow.Author.Tests.{le-leb, lt-leb}
 use Rattle.meaning.specs.Time.{first_micro}
 use Rattle.pace.specs.Pace.{passed}
 use Rattle.pace.proofs.Bounds.{end_high, wait_high}
-use borrow.Author.Rules.{rules}
 use Rattle.pace.proofs.Pace.passed.Goals as goal
 
 pub overflow_mul-after : goal.overflow_mul-after

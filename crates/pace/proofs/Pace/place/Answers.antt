@@ -2,7 +2,6 @@ use native.Mathlib.Omega.{arith}
 use borrow.Author.Tests.{lt-ltb, le-ltb}
 use Rattle.pace.specs.Pace.{place_of}
 use Rattle.pace.proofs.Bounds.{within_high}
-use borrow.Author.Rules.{rules}
 use Rattle.pace.proofs.Pace.place.Goals as goal
 
 pub returns-then-self-lead : goal.returns-then-self-lead

@@ -1,7 +1,6 @@
 use native.Mathlib.Omega.{arith}
 use Rattle.pace.specs.Pace.{renewed}
 use Rattle.pace.proofs.Bounds.{finished_within, end_high}
-use borrow.Author.Rules.{rules}
 use Rattle.pace.proofs.Pace.renewed.Goals as goal
 
 pub overflow_mul-behind-2 : goal.overflow_mul-behind-2

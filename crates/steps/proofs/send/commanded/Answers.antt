@@ -1,7 +1,6 @@
 use mathlib.Core.Path.{sym, ◌∙◌}
 use Rattle.words.proofs.Standing.{pairs_counts}
 use Rattle.steps.specs.Step.{command_step}
-use borrow.Author.Rules.{rules}
 use Rattle.steps.proofs.send.commanded.Goals as goal
 
 pub returns-in-Start : goal.returns-in-Start

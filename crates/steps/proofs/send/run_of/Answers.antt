@@ -1,5 +1,4 @@
 use Rattle.steps.proofs.Deciding.{run_made}
-use borrow.Author.Rules.{rules}
 use Rattle.steps.proofs.send.run_of.Goals as goal
 
 pub returns : goal.returns

@@ -1,7 +1,6 @@
 use mathlib.Core.Path.{sym, ◌∙◌}
 use Rattle.steps.specs.Step.{send_step}
 use Rattle.steps.proofs.Deciding.{sent_few, sent_inside, fault_answered, sent_answered}
-use borrow.Author.Rules.{rules}
 use Rattle.steps.proofs.send.send.Goals as goal
 
 pub returns-then-is_silent : goal.returns-then-is_silent

@@ -2,7 +2,7 @@ use Prim.Native.Nat.{◌*◌, ◌≤◌}
 use mathlib.Core.Path.{◌≡◌, sym, ◌∙◌}
 use mathlib.Core.Bool.{true}
 use native.Mathlib.Omega.{arith}
-use borrow.Author.Tests.{eq-eqb, ne_eqb, not-true, not-false}
+use borrow.Author.Tests.{eq-eqb, ne_eqb}
 use lib.ListN.{length, take}
 use Rattle.words.specs.Pairs.{counts_of, pairs_of, counts_in}
 use Rattle.words.proofs.Standing.{pairs_many}
@@ -10,7 +10,6 @@ use Rattle.store.specs.Store.{alike}
 use Rattle.connector.specs.Change.{owns}
 use Rattle.steps.specs.Send.{same_fields, same_command}
 use Rattle.steps.proofs.Deciding.{same_kept}
-use borrow.Author.Rules.{rules}
 use Rattle.steps.proofs.send.verdict_of.Goals as goal
 
 pub returns-then-not-owns : goal.returns-then-not-owns

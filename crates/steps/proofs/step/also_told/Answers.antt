@@ -1,6 +1,5 @@
 use mathlib.Core.Path.{sym, ◌∙◌}
 use Rattle.steps.specs.Step.{also_told}
-use borrow.Author.Rules.{rules}
 use Rattle.steps.proofs.step.also_told.Goals as goal
 
 pub returns-then-owns : goal.returns-then-owns

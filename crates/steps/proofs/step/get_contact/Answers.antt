@@ -1,7 +1,5 @@
 use mathlib.Core.Path.{sym, ◌∙◌}
-use borrow.Author.Tests.{not-true, not-false}
 use Rattle.steps.specs.Step.{get_contact}
-use borrow.Author.Rules.{rules}
 use Rattle.steps.proofs.step.get_contact.Goals as goal
 
 pub returns-then-not-is_sensor : goal.returns-then-not-is_sensor

@@ -1,4 +1,3 @@
-use borrow.Author.Rules.{rules}
 use Rattle.steps.proofs.step.get_lamp.Goals as goal
 
 pub lamp_reply-requires : goal.lamp_reply-requires

@@ -1,7 +1,5 @@
-use mathlib.Core.Path.{sym, ◌∙◌, ap}
-use mathlib.Core.Bool.{not}
+use mathlib.Core.Path.{sym, ◌∙◌}
 use Rattle.steps.specs.Step.{of_lamp}
-use borrow.Author.Rules.{rules}
 use Rattle.steps.proofs.step.of_lamp.Goals as goal
 
 pub returns-then-not-is_lighting : goal.returns-then-not-is_lighting

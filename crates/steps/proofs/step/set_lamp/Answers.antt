@@ -1,5 +1,4 @@
 use Rattle.lamp.proofs.Keeps.{turned_sound}
-use borrow.Author.Rules.{rules}
 use Rattle.steps.proofs.step.set_lamp.Goals as goal
 
 pub turned-lamp-requires : goal.turned-lamp-requires

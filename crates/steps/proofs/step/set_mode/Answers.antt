@@ -1,6 +1,5 @@
 use mathlib.Core.Path.{sym, ◌∙◌}
 use Rattle.steps.specs.Step.{set_mode}
-use borrow.Author.Rules.{rules}
 use Rattle.steps.proofs.step.set_mode.Goals as goal
 
 pub returns-then-is_running : goal.returns-then-is_running

@@ -1,5 +1,4 @@
 use mathlib.Core.Path.{refl}
-use borrow.Author.Rules.{rules}
 use Rattle.steps.proofs.step.step.Goals as goal
 
 pub set_lamp-requires : goal.set_lamp-requires

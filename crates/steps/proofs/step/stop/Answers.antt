@@ -1,6 +1,5 @@
 use mathlib.Core.Path.{sym, ◌∙◌}
 use Rattle.steps.specs.Step.{stops}
-use borrow.Author.Rules.{rules}
 use Rattle.steps.proofs.step.stop.Goals as goal
 
 pub returns-then-is_silent : goal.returns-then-is_silent

@@ -1,7 +1,7 @@
-use Prim.Native.Nat.{◌-◌, ◌+◌, ◌%◌}
+use Prim.Native.Nat.{◌+◌, ◌%◌}
 use mathlib.Core.Path.{◌≡◌}
 use native.Mathlib.Omega.{arith}
-use Rattle.writer.proofs.Writing.{Writing, writing_start, writing_end, writing_letter, writing_spelled, at_most}
+use Rattle.writer.proofs.Writing.{writing_start, writing_end, writing_letter, writing_spelled, at_most}
 use borrow.Author.Rules.{rules}
 use Rattle.writer.proofs.codetext.put_code.Goals as goal
 

@@ -1,8 +1,5 @@
-use Prim.Native.Nat.{◌-◌, ◌+◌, ◌%◌}
-use mathlib.Core.Path.{◌≡◌}
-use native.Mathlib.Omega.{arith}
-use Rattle.writer.proofs.Writing.{Writing, writing_start, writing_end, writing_letter, writing_spelled, at_most}
-use borrow.Author.Rules.{rules}
+use Prim.Native.Nat.{◌-◌}
+use Rattle.writer.proofs.Writing.{Writing}
 use Rattle.writer.proofs.codetext.put_code.Given as goal
 
 abbrev pub invariant-loop-j : goal.invariant-loop-j

@@ -1,6 +1,5 @@
 use native.Mathlib.Omega.{arith}
 use Rattle.laws.proofs.Put.{nothing, byte}
-use borrow.Author.Rules.{rules}
 use Rattle.writer.proofs.codetext.put_comma.Goals as goal
 
 pub returns-in-Nothing : goal.returns-in-Nothing

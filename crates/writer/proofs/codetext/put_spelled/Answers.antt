@@ -5,7 +5,6 @@ use Rattle.words.specs.Decimal.{decimal}
 use Rattle.text.proofs.Decimals.{decimal_few}
 use Rattle.laws.proofs.Put.{then}
 use Rattle.writer.proofs.Writing.{comma_few, pair_length}
-use borrow.Author.Rules.{rules}
 use Rattle.writer.proofs.codetext.put_spelled.Goals as goal
 
 pub put_number-b-requires : goal.put_number-b-requires

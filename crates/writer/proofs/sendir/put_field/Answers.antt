@@ -5,7 +5,6 @@ use Rattle.laws.specs.Bytes.{bytes}
 use Rattle.laws.proofs.Put.{then}
 use Rattle.words.specs.Decimal.{decimal}
 use Rattle.text.proofs.Decimals.{decimal_few}
-use borrow.Author.Rules.{rules}
 use Rattle.writer.proofs.sendir.put_field.Goals as goal
 
 pub put_number-a-requires : goal.put_number-a-requires

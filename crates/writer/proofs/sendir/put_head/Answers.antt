@@ -1,7 +1,6 @@
 use native.Mathlib.Omega.{arith}
 use Rattle.laws.proofs.Put.{then}
 use Rattle.writer.specs.Sendir.{sendir_head}
-use borrow.Author.Rules.{rules}
 use Rattle.writer.proofs.sendir.put_head.Goals as goal
 
 pub put_field-b-requires : goal.put_field-b-requires

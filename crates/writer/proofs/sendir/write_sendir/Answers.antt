@@ -1,7 +1,6 @@
 use native.Mathlib.Omega.{arith}
 use Rattle.laws.proofs.Put.{then}
 use Rattle.writer.proofs.Sending.{no_room, not_taken, head_small, few_pairs, whole_line}
-use borrow.Author.Rules.{rules}
 use Rattle.writer.proofs.sendir.write_sendir.Goals as goal
 
 pub returns-then-buf-lt-ROOM : goal.returns-then-buf-lt-ROOM

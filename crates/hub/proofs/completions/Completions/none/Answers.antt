@@ -1,4 +1,3 @@
-use borrow.Author.Rules.{rules}
 use Rattle.hub.proofs.completions.Completions.none.Goals as goal
 
 pub returns : goal.returns

@@ -1,5 +1,4 @@
 use Rattle.hub.proofs.Keeps.{fresh_sound}
-use borrow.Author.Rules.{rules}
 use Rattle.vectors.proofs.reply_vector.Goals as goal
 
 pub replies-replied-requires : goal.replies-replied-requires

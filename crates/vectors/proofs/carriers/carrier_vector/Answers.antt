@@ -1,5 +1,4 @@
 use Rattle.hub.proofs.Keeps.{fresh_sound, wait_sound}
-use borrow.Author.Rules.{rules}
 use Rattle.vectors.proofs.carriers.carrier_vector.Goals as goal
 
 pub sent-started-requires : goal.sent-started-requires

@@ -1,6 +1,3 @@
-use Prim.Native.Nat.{◌-◌}
-use borrow.Author.Rules.{rules}
-use Rattle.words.specs.Places.{connectors}
 use Rattle.vectors.proofs.carriers.others_off.Goals as goal
 
 pub loop-slot-init : goal.loop-slot-init

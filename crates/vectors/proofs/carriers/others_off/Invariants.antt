@@ -1,5 +1,4 @@
 use Prim.Native.Nat.{◌-◌}
-use borrow.Author.Rules.{rules}
 use Rattle.words.specs.Places.{connectors}
 use Rattle.vectors.proofs.carriers.others_off.Given as goal
 

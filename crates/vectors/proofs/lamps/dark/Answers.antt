@@ -1,5 +1,4 @@
 use Rattle.hub.proofs.Keeps.{fresh_sound}
-use borrow.Author.Rules.{rules}
 use Rattle.vectors.proofs.lamps.dark.Goals as goal
 
 pub later-requires : goal.later-requires

@@ -1,5 +1,4 @@
 use Rattle.hub.proofs.Keeps.{wait_sound}
-use borrow.Author.Rules.{rules}
 use Rattle.vectors.proofs.lamps.later.Goals as goal
 
 pub returns : goal.returns

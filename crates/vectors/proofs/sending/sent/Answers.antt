@@ -1,5 +1,4 @@
 use Rattle.hub.proofs.Keeps.{line_in_range, line_sound}
-use borrow.Author.Rules.{rules}
 use Rattle.vectors.proofs.sending.sent.Goals as goal
 
 pub applied-requires : goal.applied-requires

@@ -1,9 +1,8 @@
-use mathlib.Core.Path.{◌≡◌, sym, ◌∙◌}
-use lib.ListN.{length, length-map}
+use mathlib.Core.Path.{◌≡◌}
+use lib.ListN.{length}
 use borrow.Author.Tests.{lt-ltb, le-ltb}
 use Rattle.code.specs.Letters.{learnt_letters}
 use Rattle.code.proofs.Lettering.{learn_known, learn_full, learn_new}
-use borrow.Author.Rules.{rules}
 use Rattle.code.proofs.letters.learn.Goals as goal
 use Rattle.code.proofs.letters.learn.Goals.{Start}
 

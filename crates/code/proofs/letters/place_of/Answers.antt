@@ -1,9 +1,8 @@
-use Prim.Native.Nat.{◌-◌, ◌≤◌}
+use Prim.Native.Nat.{◌≤◌}
 use mathlib.Core.Path.{◌≡◌, sym, ◌∙◌}
 use native.Mathlib.Omega.{arith}
-use lib.ListN.{length, length-map}
-use Rattle.code.proofs.Lettering.{Seeking, place_end, place_out, place_found, place_other}
-use borrow.Author.Rules.{rules}
+use lib.ListN.{length}
+use Rattle.code.proofs.Lettering.{place_end, place_out, place_found, place_other}
 use Rattle.code.proofs.letters.place_of.Goals as goal
 use Rattle.code.proofs.letters.place_of.Goals.{Start}
 

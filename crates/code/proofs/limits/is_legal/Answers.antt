@@ -1,6 +1,5 @@
 use borrow.Author.Tests.{lt-ltb, le-ltb}
 use Rattle.code.specs.Limits.{legal}
-use borrow.Author.Rules.{rules}
 use Rattle.code.proofs.limits.is_legal.Goals as goal
 
 pub returns-then-count-lt-LEAST_COUNT : goal.returns-then-count-lt-LEAST_COUNT

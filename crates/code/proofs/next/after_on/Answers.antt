@@ -1,7 +1,6 @@
 use mathlib.Core.Path.{sym, ◌∙◌}
 use borrow.Author.Tests.{le-leb, lt-leb, eq-eqb, ne_eqb}
 use Rattle.code.specs.Next.{after_on}
-use borrow.Author.Rules.{rules}
 use Rattle.code.proofs.next.after_on.Goals as goal
 
 pub returns-then-s-at : goal.returns-then-s-at

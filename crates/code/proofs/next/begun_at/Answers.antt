@@ -1,6 +1,5 @@
 use mathlib.Core.Path.{sym, ◌∙◌}
 use Rattle.code.specs.Next.{begun_at}
-use borrow.Author.Rules.{rules}
 use Rattle.code.proofs.next.begun_at.Goals as goal
 
 pub returns-then-is_digit : goal.returns-then-is_digit

@@ -2,7 +2,6 @@ use mathlib.Core.Path.{sym, ◌∙◌}
 use native.Mathlib.Omega.{arith}
 use Rattle.code.specs.Next.{count_at}
 use Rattle.code.proofs.Smallest.{legal_is}
-use borrow.Author.Rules.{rules}
 use Rattle.code.proofs.next.count_at.Goals as goal
 
 pub returns-in-Missing : goal.returns-in-Missing

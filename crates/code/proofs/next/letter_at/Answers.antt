@@ -1,7 +1,6 @@
 use mathlib.Core.Path.{sym, ◌∙◌}
 use borrow.Author.Tests.{lt-ltb, le-ltb}
 use Rattle.code.specs.Next.{letter_at}
-use borrow.Author.Rules.{rules}
 use Rattle.code.proofs.next.letter_at.Goals as goal
 
 pub returns-then-is_full : goal.returns-then-is_full

@@ -1,7 +1,6 @@
 use mathlib.Core.Path.{sym, ◌∙◌}
 use borrow.Author.Tests.{le-leb, lt-leb, eq-eqb, ne_eqb}
 use Rattle.code.specs.Next.{next_pair}
-use borrow.Author.Rules.{rules}
 use Rattle.code.proofs.next.next_pair.Goals as goal
 use Rattle.code.proofs.next.next_pair.Goals.{in-Nothing, in-Spelling+else-b-ne44, in-Lettering}
 

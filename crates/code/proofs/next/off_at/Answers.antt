@@ -1,6 +1,5 @@
 use mathlib.Core.Path.{sym, ◌∙◌}
 use Rattle.code.specs.Next.{off_at}
-use borrow.Author.Rules.{rules}
 use Rattle.code.proofs.next.off_at.Goals as goal
 
 pub returns-then-is_letter : goal.returns-then-is_letter

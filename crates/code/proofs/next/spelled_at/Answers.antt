@@ -1,6 +1,5 @@
 use mathlib.Core.Path.{sym, ◌∙◌}
 use Rattle.code.specs.Next.{spelled_at}
-use borrow.Author.Rules.{rules}
 use Rattle.code.proofs.next.spelled_at.Goals as goal
 
 pub returns-then-is_full : goal.returns-then-is_full

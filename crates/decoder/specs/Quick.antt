@@ -1,4 +1,4 @@
--- What the quick reader of spelled pairs finds: the same as nextPair, where it finds anything.
+-- What the quick reader of spelled pairs finds: the same as next_pair, where it finds anything.
 use Rattle.std.specs.Prelude.{ℕ, ◌+◌, ◌≤◌, ◌<◌, ◌≡◌, true, List, length, get_or}
 use Rattle.words.specs.Digits.{is_digit}
 use Rattle.text.specs.Number.{number_at}

@@ -20,7 +20,7 @@ use Rattle.meaning.specs.Table as call
 use Rattle.lines.specs.declared.Assembler.{Assembler}
 use Rattle.lines.specs.declared.Found.{Found}
 use Rattle.lines.specs.declared.Found.TheVariants as found
-use Rattle.lines.specs.Cut.{Line, line_of, divided}
+use Rattle.lines.specs.Cut.{line_of, divided}
 use Rattle.lines.specs.Take.{fresh_assembler, counted, found_of, until_cr, Step, take_step}
 use Rattle.lines.specs.Feed.{line_in, feed}
 use Rattle.lines.proofs.Cutting.{divided_append}

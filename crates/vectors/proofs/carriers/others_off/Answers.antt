@@ -1,0 +1,10 @@
+use Prim.Native.Nat.{◌-◌}
+use borrow.Author.Rules.{rules}
+use Rattle.words.specs.Places.{connectors}
+use Rattle.vectors.proofs.carriers.others_off.Goals as goal
+
+pub loop-slot-init : goal.loop-slot-init
+loop-slot-init c = tt
+
+pub loop-slot-preserved : goal.loop-slot-preserved
+loop-slot-preserved c = tt

@@ -15,7 +15,7 @@ use Rattle.text.specs.declared.field.Field.{Field}
 use Rattle.text.specs.Field.{after_comma}
 use Rattle.text.proofs.Limits.{field_case}
 use Rattle.request.specs.declared.Place.{Place}
-use Rattle.request.specs.declared.Ask.TheVariants.{SetMode, GetMode, GetContact, Stop, SetLamp}
+use Rattle.request.specs.declared.Ask.TheVariants.{SetMode, GetMode, GetContact, Stop}
 use Rattle.request.specs.declared.Turn.TheVariants.{Set, Get}
 use Rattle.request.specs.declared.Request.{Request}
 use Rattle.request.specs.declared.Request.TheVariants.{Fixed, Connector, Relay}

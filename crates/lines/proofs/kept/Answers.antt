@@ -2,7 +2,6 @@ use mathlib.Core.Path.{refl, sym}
 use native.Mathlib.Omega.{arith}
 use lib.Seq.{set_out}
 use Rattle.lines.proofs.Taking.{kept_in, kept_out}
-use borrow.Author.Rules.{rules}
 use Rattle.lines.proofs.kept.Goals as goal
 
 pub returns-then-size-buf : goal.returns-then-size-buf

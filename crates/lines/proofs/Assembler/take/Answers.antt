@@ -1,8 +1,7 @@
-use Prim.Native.Nat.{suc, ◌-◌, ◌≤◌}
-use mathlib.Core.Path.{◌≡◌, ◌∙◌}
+use Prim.Native.Nat.{suc}
+use mathlib.Core.Path.{◌∙◌}
 use native.Mathlib.Omega.{arith}
-use lib.ListN.{length, drop}
-use Rattle.lines.proofs.Taking.{step_from, refused, from_start, at_byte, at_cr, at_end_law, counted_most, takes}
+use Rattle.lines.proofs.Taking.{refused, from_start, at_byte, at_cr, at_end_law, counted_most, takes}
 use borrow.Author.Rules.{rules}
 use Rattle.lines.proofs.Assembler.take.Goals as goal
 

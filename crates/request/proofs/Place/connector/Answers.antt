@@ -1,5 +1,4 @@
 use borrow.Author.Tests.{lt-ltb, le-ltb}
-use borrow.Author.Rules.{rules}
 use Rattle.request.proofs.Place.connector.Goals as goal
 
 pub returns-then-slot-lt-CONNECTORS : goal.returns-then-slot-lt-CONNECTORS

@@ -2,10 +2,8 @@ use Prim.Native.Nat.{◌+◌, ◌≤◌}
 use mathlib.Core.Path.{sym, ◌∙◌}
 use native.Mathlib.Omega.{arith}
 use lib.ListN.{get_or}
-use borrow.Author.Tests.{not-false}
 use Rattle.text.proofs.Reading.{digit_range}
 use Rattle.request.proofs.Shorts.{Short, short_is, short_read}
-use borrow.Author.Rules.{rules}
 use Rattle.request.proofs.address.address_at.Goals as goal
 
 pub bounds-s-at : goal.bounds-s-at

@@ -1,7 +1,6 @@
 use mathlib.Core.Path.{sym, ◌∙◌}
-use borrow.Author.Tests.{not-true, not-false, lt-ltb, le-ltb}
+use borrow.Author.Tests.{lt-ltb, le-ltb}
 use Rattle.request.specs.Address.{address_fault}
-use borrow.Author.Rules.{rules}
 use Rattle.request.proofs.address.address_fault.Goals as goal
 
 pub returns-then-not-has_module : goal.returns-then-not-has_module

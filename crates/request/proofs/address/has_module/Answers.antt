@@ -1,5 +1,4 @@
 use borrow.Author.Tests.{eq-eqb, ne_eqb}
-use borrow.Author.Rules.{rules}
 use Rattle.request.proofs.address.has_module.Goals as goal
 
 pub returns-in-SetIr : goal.returns-in-SetIr

@@ -2,9 +2,8 @@ use mathlib.Core.Path.{sym, ◌∙◌}
 use Prim.Native.Nat.{◌+◌}
 use native.Mathlib.Omega.{arith}
 use lib.ListN.{length}
-use borrow.Author.Tests.{lt-ltb, le-ltb, eq-eqb, ne_eqb, not-true, not-false}
+use borrow.Author.Tests.{lt-ltb, le-ltb, eq-eqb, ne_eqb}
 use Rattle.request.specs.Address.{is_short}
-use borrow.Author.Rules.{rules}
 use Rattle.request.proofs.address.is_short.Goals as goal
 
 pub returns-then-s-at : goal.returns-then-s-at

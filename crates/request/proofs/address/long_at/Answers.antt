@@ -1,7 +1,6 @@
 use mathlib.Core.Path.{sym, ◌∙◌}
 use borrow.Author.Tests.{le-leb, lt-leb, eq-eqb, ne_eqb}
 use Rattle.request.specs.Address.{address_at}
-use borrow.Author.Rules.{rules}
 use Rattle.request.proofs.address.long_at.Goals as goal
 
 pub returns-then-s-end : goal.returns-then-s-end

@@ -1,6 +1,5 @@
 use mathlib.Core.Path.{sym, ◌∙◌}
 use Rattle.request.specs.Address.{port_at}
-use borrow.Author.Rules.{rules}
 use Rattle.request.proofs.address.port_at.Goals as goal
 
 pub returns-in-Missing : goal.returns-in-Missing

@@ -1,4 +1,3 @@
-use borrow.Author.Rules.{rules}
 use Rattle.request.proofs.mode.may_have.Goals as goal
 
 pub returns-in-IrBlaster : goal.returns-in-IrBlaster

@@ -8,7 +8,6 @@ use Rattle.text.proofs.Words.{word_short}
 use Rattle.request.specs.declared.mode.Mode.{Mode}
 use Rattle.request.specs.declared.mode.Mode.TheVariants.{Ir, Sensor, IrBlaster, LedLighting}
 use Rattle.request.specs.Mode.{mode_word, mode_at}
-use borrow.Author.Rules.{rules}
 use Rattle.request.proofs.mode.mode_at.Goals as goal
 use Rattle.request.proofs.mode.mode_at.Goals.{Then-s-at}
 

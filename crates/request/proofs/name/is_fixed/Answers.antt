@@ -1,4 +1,3 @@
-use borrow.Author.Rules.{rules}
 use Rattle.request.proofs.name.is_fixed.Goals as goal
 
 pub returns-in-Devices : goal.returns-in-Devices

@@ -1,4 +1,3 @@
-use borrow.Author.Rules.{rules}
 use Rattle.request.proofs.name.is_name.Goals as goal
 
 pub returns-in-SetIr : goal.returns-in-SetIr

@@ -2,7 +2,6 @@ use mathlib.Core.Path.{◌≡◌, sym, ◌∙◌}
 use lib.ListN.{get_or}
 use Rattle.request.specs.Name.{candidate}
 use Rattle.request.proofs.Naming.{word_known, word_unknown}
-use borrow.Author.Rules.{rules}
 use Rattle.request.proofs.name.word_at.Goals as goal
 
 pub returns-then-is_word : goal.returns-then-is_word

@@ -1,7 +1,6 @@
 use mathlib.Core.Path.{◌≡◌}
 use borrow.Author.Tests.{eq-eqb, ne_eqb}
 use Rattle.request.specs.Request.{address_read, addressed}
-use borrow.Author.Rules.{rules}
 use Rattle.request.proofs.read.addressed.Goals as goal
 
 pub returns-then-number-ne0 : goal.returns-then-number-ne0

@@ -1,6 +1,5 @@
 use borrow.Author.Tests.{lt-ltb, le-ltb}
 use Rattle.request.specs.Request.{alone}
-use borrow.Author.Rules.{rules}
 use Rattle.request.proofs.read.alone.Goals as goal
 
 pub returns-then-end-s : goal.returns-then-end-s

@@ -1,6 +1,5 @@
 use borrow.Author.Tests.{eq-eqb, ne_eqb}
 use Rattle.request.specs.Request.{get_state_at}
-use borrow.Author.Rules.{rules}
 use Rattle.request.proofs.read.get_state_at.Goals as goal
 
 pub returns-then-place-eq-INFRARED : goal.returns-then-place-eq-INFRARED

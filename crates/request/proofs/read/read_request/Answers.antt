@@ -1,8 +1,7 @@
 use mathlib.Core.Path.{◌≡◌, sym, ◌∙◌}
-use borrow.Author.Tests.{lt-ltb, le-ltb, not-true, not-false}
+use borrow.Author.Tests.{lt-ltb, le-ltb}
 use Rattle.request.specs.Name.{word_at}
 use Rattle.request.specs.Request.{asked, read_request}
-use borrow.Author.Rules.{rules}
 use Rattle.request.proofs.read.read_request.Goals as goal
 
 pub returns-then-s-gt-MOST_BYTES : goal.returns-then-s-gt-MOST_BYTES

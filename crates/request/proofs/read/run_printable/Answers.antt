@@ -1,14 +1,11 @@
-use Prim.Native.Nat.{ℕ, ◌+◌, ◌-◌, ◌≤◌}
-use mathlib.Core.Path.{◌≡◌, sym, ap, ◌∙◌}
-use mathlib.Core.Bool.{◌&&◌}
+use Prim.Native.Nat.{ℕ, ◌+◌}
+use mathlib.Core.Path.{sym, ap, ◌∙◌}
 use native.Mathlib.Nat.{add-zero}
 use native.Mathlib.Omega.{arith}
-use borrow.Author.Tests.{not-true, not-false}
 use Rattle.request.proofs.Covering.{run_end, step_bad, step_good}
 use lib.ListN.{take, drop}
 use Rattle.laws.specs.Lists.{all}
 use Rattle.request.specs.Request.{is_printable}
-use borrow.Author.Rules.{rules}
 use Rattle.request.proofs.read.run_printable.Goals as goal
 use Rattle.request.proofs.read.run_printable.Goals.{then-not-is_printable, else-not-is_printable}
 

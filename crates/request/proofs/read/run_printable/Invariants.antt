@@ -1,15 +1,9 @@
-use Prim.Native.Nat.{ℕ, ◌+◌, ◌-◌, ◌≤◌}
-use mathlib.Core.Path.{◌≡◌, sym, ap, ◌∙◌}
+use Prim.Native.Nat.{◌+◌, ◌-◌, ◌≤◌}
+use mathlib.Core.Path.{◌≡◌}
 use mathlib.Core.Bool.{◌&&◌}
-use native.Mathlib.Nat.{add-zero}
-use native.Mathlib.Omega.{arith}
-use borrow.Author.Tests.{not-true, not-false}
-use Rattle.request.proofs.Covering.{run_end, step_bad, step_good}
 use lib.ListN.{take, drop}
 use Rattle.laws.specs.Lists.{all}
 use Rattle.request.specs.Request.{is_printable}
-use borrow.Author.Rules.{rules}
-use mathlib.Core.Logic.{⊎_elim}
 use Rattle.request.proofs.read.run_printable.Given as goal
 
 abbrev pub invariant-loop-j : goal.invariant-loop-j

@@ -1,6 +1,5 @@
 use mathlib.Core.Path.{sym, ◌∙◌}
 use Rattle.request.specs.Request.{set_ir_at}
-use borrow.Author.Rules.{rules}
 use Rattle.request.proofs.read.set_ir_at.Goals as goal
 
 pub returns-in-Unknown : goal.returns-in-Unknown

@@ -1,6 +1,5 @@
 use mathlib.Core.Path.{sym, ◌∙◌}
 use Rattle.request.specs.Request.{set_state_at}
-use borrow.Author.Rules.{rules}
 use Rattle.request.proofs.read.set_state_at.Goals as goal
 
 pub returns-in-Bad : goal.returns-in-Bad

@@ -1,6 +1,5 @@
 use borrow.Author.Tests.{lt-ltb, le-ltb}
 use Rattle.text.specs.Field.{after_comma}
-use borrow.Author.Rules.{rules}
 use Rattle.text.proofs.field.after_comma.Goals as goal
 
 pub returns-then-at-s : goal.returns-then-at-s

@@ -1,6 +1,5 @@
 use borrow.Author.Tests.{le-leb, lt-leb}
 use Rattle.text.specs.Field.{ends_field}
-use borrow.Author.Rules.{rules}
 use Rattle.text.proofs.field.ends_field.Goals as goal
 
 pub returns-then-s-at : goal.returns-then-s-at

@@ -1,9 +1,5 @@
-use Prim.Native.Nat.{◌-◌}
-use mathlib.Core.Path.{◌≡◌, refl, sym, ◌∙◌}
-use lib.ListN.{length, drop}
-use Rattle.text.specs.Field.{field_is}
+use mathlib.Core.Path.{refl, sym, ◌∙◌}
 use Rattle.text.proofs.Words.{word_same, word_other, word_short, word_end}
-use borrow.Author.Rules.{rules}
 use Rattle.text.proofs.field.field_is.Goals as goal
 
 pub loop-j-init : goal.loop-j-init

@@ -1,9 +1,7 @@
 use Prim.Native.Nat.{◌-◌}
-use mathlib.Core.Path.{◌≡◌, refl, sym, ◌∙◌}
+use mathlib.Core.Path.{◌≡◌}
 use lib.ListN.{length, drop}
 use Rattle.text.specs.Field.{field_is}
-use Rattle.text.proofs.Words.{word_same, word_other, word_short, word_end}
-use borrow.Author.Rules.{rules}
 use Rattle.text.proofs.field.field_is.Given as goal
 
 abbrev pub invariant-loop-j : goal.invariant-loop-j

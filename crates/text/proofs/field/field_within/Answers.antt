@@ -1,7 +1,6 @@
 use mathlib.Core.Path.{sym, ◌∙◌}
-use borrow.Author.Tests.{not-true, not-false, lt-ltb, le-ltb}
+use borrow.Author.Tests.{lt-ltb, le-ltb}
 use Rattle.text.specs.Field.{field_within}
-use borrow.Author.Rules.{rules}
 use Rattle.text.proofs.field.field_within.Goals as goal
 
 pub returns-then-not-ends_field : goal.returns-then-not-ends_field

@@ -1,6 +1,5 @@
 use borrow.Author.Tests.{lt-ltb, le-ltb}
 use Rattle.text.specs.Number.{grown}
-use borrow.Author.Rules.{rules}
 use Rattle.text.proofs.number.grown.Goals as goal
 
 pub returns-then-digits-lt-MOST_DIGITS : goal.returns-then-digits-lt-MOST_DIGITS

@@ -1,13 +1,10 @@
-use Prim.Native.Nat.{ℕ, ◌-◌}
+use Prim.Native.Nat.{ℕ}
 use mathlib.Core.Path.{◌≡◌, sym, ◌∙◌}
 use mathlib.Core.Bool.{true}
-use native.Mathlib.Omega.{arith}
-use borrow.Author.Tests.{not-true, not-false}
-use lib.ListN.{length, get_or}
+use lib.ListN.{get_or}
 use Rattle.laws.proofs.Lists.{leading_stop, leading_done}
 use Rattle.words.specs.Digits.{is_digit}
-use Rattle.text.proofs.Reading.{Reading, reading_start, reading_more, reading_stop, reading_small, digit_range}
-use borrow.Author.Rules.{rules}
+use Rattle.text.proofs.Reading.{reading_start, reading_more, reading_stop, reading_small, digit_range}
 use Rattle.text.proofs.number.number_at.Goals as goal
 use Rattle.text.proofs.number.number_at.Goals.{Else-not-is_digit}
 

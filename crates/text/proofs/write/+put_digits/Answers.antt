@@ -1,4 +1,4 @@
-use lib.ListN.{length, length-set}
+use lib.ListN.{length}
 use Rattle.laws.proofs.Put.{byte}
 use Rattle.text.proofs.Decimals.{decimal_small, decimal_longer, put_last}
 use mathlib.Core.Path.{ap}

@@ -1,7 +1,6 @@
 use lib.ListN.{length}
 use mathlib.Core.Path.{ap}
 use native.Mathlib.Omega.{arith}
-use borrow.Author.Rules.{rules}
 use Rattle.laws.proofs.Put.{byte}
 use Rattle.text.proofs.Decimals.{decimal_small}
 use Rattle.text.proofs.write.put_number.Goals as goal

@@ -1,11 +1,8 @@
-use Prim.Native.Nat.{◌+◌, ◌-◌, ◌≤◌}
 use mathlib.Core.Path.{◌≡◌, refl, sym, ◌∙◌}
 use mathlib.Core.List.{[]}
 use native.Mathlib.Omega.{arith}
-use lib.ListN.{length, drop, length-set, drop_of_length-le}
-use lib.Seq.{sets}
+use lib.ListN.{drop, length-set, drop_of_length-le}
 use Rattle.laws.proofs.Put.{stored, copy_more}
-use borrow.Author.Rules.{rules}
 use Rattle.text.proofs.write.put_word.Goals as goal
 
 pub loop-j-init : goal.loop-j-init

@@ -1,11 +1,7 @@
 use Prim.Native.Nat.{◌+◌, ◌-◌, ◌≤◌}
-use mathlib.Core.Path.{◌≡◌, refl, sym, ◌∙◌}
-use mathlib.Core.List.{[]}
-use native.Mathlib.Omega.{arith}
-use lib.ListN.{length, drop, length-set, drop_of_length-le}
+use mathlib.Core.Path.{◌≡◌}
+use lib.ListN.{length, drop}
 use lib.Seq.{sets}
-use Rattle.laws.proofs.Put.{stored, copy_more}
-use borrow.Author.Rules.{rules}
 use Rattle.text.proofs.write.put_word.Given as goal
 
 abbrev pub invariant-loop-j : goal.invariant-loop-j

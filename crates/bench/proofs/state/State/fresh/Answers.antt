@@ -1,0 +1,6 @@
+use Rattle.hub.proofs.Keeps.{fresh_sound}
+use Rattle.std.proofs.Common.{rules}
+use Rattle.bench.proofs.state.State.fresh.Goals as goal
+
+pub returns : goal.returns
+returns c = rw c.fresh.ensures fresh_sound

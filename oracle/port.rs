@@ -1,4 +1,4 @@
-//! The oracle's port: the frames of docs/PORT.md over the oracle's hub, to be compared with the proved program `port`
+//! The oracle's port: the frames of docs/PORT-OTHER.md over the oracle's hub, to be compared with the proved program `port`
 //! byte for byte, and to stand in for it behind the socket. Frames, the joining of lines, carriers and what is due are
 //! its own, from that page and document 01 alone: a line is what a plain split at CR gives, and the carriers are looked
 //! up in the waveforms as they are written out.

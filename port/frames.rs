@@ -1,4 +1,4 @@
-//! The frames of docs/PORT.md: written for the program, and read from it.
+//! The frames of docs/PORT-OTHER.md: written for the program, and read from it.
 
 use std::io::{self, ErrorKind, Read};
 

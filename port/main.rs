@@ -1,5 +1,5 @@
 //! The socket of `./run port`: it accepts connections and measures time, and hands both on to a program that speaks the
-//! frames of docs/PORT.md, which does everything that document 01 says. What that says is written to the connections.
+//! frames of docs/PORT-OTHER.md, which does everything that document 01 says. What that says is written to the connections.
 //!
 //! port [ADDRESS:PORT] [--record FILE] --program WORDS..: listens at 127.0.0.1:4998 unless said otherwise; port 0 is
 //! any free one. WORDS is the command of the program. With --record all frames that it is given go into FILE, all that

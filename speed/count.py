@@ -1,8 +1,8 @@
 #!/usr/bin/env python3
 """count.py INPUT COMMAND..: the instructions that a program executes on an input, less those on an empty one; the same number each time.
 
-COMMAND is the words that run an x86-64 program. Where the first is an emulator (qemu-x86_64) it says each instruction as it is executed;
-elsewhere valgrind counts. A string instruction that repeats counts once under the emulator.
+COMMAND is the words that run an x86-64 program, which valgrind counts. Where the first is an emulator (qemu-x86_64) it says each instruction
+as it is executed instead; a string instruction that repeats counts once there.
 """
 import itertools
 import os

@@ -4,7 +4,7 @@
  * with on the same lines.
  *
  * Standard input: the bench's lines.  Standard output: the bench's output.
- * As `hub port` it speaks the frames of docs/PORT.md instead, and can stand in
+ * As `hub port` it speaks the frames of docs/PORT-OTHER.md instead, and can stand in
  * for the proved program behind the socket.
  * Time is exact: a tick is a millionth of a carrier period, so that one
  * microsecond is freq ticks.  Nothing is rounded but the moment of completion,

@@ -1,4 +1,4 @@
--- What a frame is, apart from how one is taken apart: docs/PORT.md.
+-- What a frame is, apart from how one is taken apart: docs/PORT-OTHER.md.
 use Rattle.std.specs.Prelude.{ℕ, ◌+◌, ◌*◌, ◌/◌, ◌%◌, ◌^◌, ◌≤◌, ◌<◌, ◌&&◌, List, [], ◌∷◌, ◌++◌, map, eqb, leb, length, get_or}
 use Prim.Native.String.{String}
 use Rattle.laws.specs.Bytes.{bytes}

@@ -1,4 +1,4 @@
--- A frame taken apart byte by byte, as it comes. docs/PORT.md: "a piece's bytes are served as they come, all other frames when they are whole."
+-- A frame taken apart byte by byte, as it comes. docs/PORT-OTHER.md: "a piece's bytes are served as they come, all other frames when they are whole."
 -- What a whole frame is stands in Layout; that the bytes of any frame give exactly that is proved in proofs/Reading.antt.
 use Rattle.std.specs.Prelude.{ℕ, ◌+◌, ◌-◌, ◌*◌, ◌^◌, ◌≤◌, ◌<◌, Bool, true, false, cond, ◌&&◌, List, [], ◌∷◌, eqb, ltb}
 use Rattle.laws.specs.Checks.{◌⇒◌, first}

@@ -1,4 +1,4 @@
-// The frames that the port's program reads; docs/PORT.md lays them out. A frame that comes in is taken apart byte by byte, and none is kept
+// The frames that the port's program reads; docs/PORT-OTHER.md lays them out. A frame that comes in is taken apart byte by byte, and none is kept
 // whole. Frames that go out are laid into a lent buffer by the crate `output`.
 #![tactic(auto)]
 

@@ -1,4 +1,4 @@
--- What comes out: the frames of each answer. docs/PORT.md: "A line is answered at its CR: a `b` to the asker, a second `b` with the same bytes to
+-- What comes out: the frames of each answer. docs/PORT-OTHER.md: "A line is answered at its CR: a `b` to the asker, a second `b` with the same bytes to
 -- the owner of a halted transmission if that is another connection, then an `s` where the line was carried out on a connector or a relay". "A
 -- sendir that is taken has no `b`."
 use Rattle.std.specs.Prelude.{ℕ, ◌+◌, Bool, true, false, List, [], ◌∷◌, ◌++◌, map, take}

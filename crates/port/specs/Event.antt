@@ -1,4 +1,4 @@
--- What an event makes: the server after it, and the frames that answer it. docs/PORT.md: "A piece, a closing and a reading that say nothing give no
+-- What an event makes: the server after it, and the frames that answer it. docs/PORT-OTHER.md: "A piece, a closing and a reading that say nothing give no
 -- frame, and a wait that completes nothing gives none."
 use Rattle.std.specs.Prelude.{ℕ, ◌≡◌, List, [], ◌++◌}
 use Rattle.laws.specs.Put.{Put}

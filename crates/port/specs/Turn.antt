@@ -1,4 +1,4 @@
--- A turn: the next bytes of a block, as many as belong together. docs/PORT.md: "a piece's bytes are served as they come, all other frames when they are
+-- A turn: the next bytes of a block, as many as belong together. docs/PORT-OTHER.md: "a piece's bytes are served as they come, all other frames when they are
 -- whole." "A line is answered at its CR".
 use Rattle.std.specs.Prelude.{ℕ, ◌-◌, ◌≡◌, List, [], ◌++◌, length, take}
 use Rattle.laws.specs.Put.{Put}

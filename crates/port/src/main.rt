@@ -1,4 +1,4 @@
-// The port's program: a server on standard input and output, in frames (docs/PORT.md). It reads what there is, in blocks, and writes every answer
+// The port's program: a server on standard input and output, in frames (docs/PORT-OTHER.md). It reads what there is, in blocks, and writes every answer
 // to that before it reads again.
 #![tactic(auto)]
 

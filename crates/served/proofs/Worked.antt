@@ -1,4 +1,4 @@
--- The example of docs/PORT.md: a request cut in two, with anything of another connection and a wait between its halves.
+-- The example of docs/PORT-OTHER.md: a request cut in two, with anything of another connection and a wait between its halves.
 use Prim.Native.Nat.{ℕ}
 use mathlib.Core.Path.{◌≡◌, refl}
 use mathlib.Core.List.{List, [], ◌∷◌, ◌++◌, map}

@@ -1,4 +1,4 @@
--- What is told, in the frames of docs/PORT.md: a reply is a `b` to its connection, a completion an `f` with its moment to its owner, or 255 for
+-- What is told, in the frames of docs/PORT-OTHER.md: a reply is a `b` to its connection, a completion an `f` with its moment to its owner, or 255 for
 -- nobody, and a refusal a `!` for whoever asked.
 use Rattle.std.specs.Prelude.{ℕ, List, [], ◌∷◌, ◌++◌}
 use Rattle.std.proofs.Math.Option.{Option, none, some}

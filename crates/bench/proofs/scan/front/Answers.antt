@@ -1,4 +1,4 @@
-use Rattle.std.proofs.Common.{sym, length-take-le, rules}
+use Rattle.std.proofs.Common.{sym, length-take-le}
 use Rattle.bench.proofs.scan.front.Goals as goal
 
 pub slice_bounds-result-end : goal.slice_bounds-result-end

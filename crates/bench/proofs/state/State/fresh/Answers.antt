@@ -1,5 +1,4 @@
 use Rattle.hub.proofs.Keeps.{fresh_sound}
-use Rattle.std.proofs.Common.{rules}
 use Rattle.bench.proofs.state.State.fresh.Goals as goal
 
 pub returns : goal.returns

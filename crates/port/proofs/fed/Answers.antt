@@ -1,11 +1,8 @@
-use Rattle.port.proofs.Feeding.{rest_of, Feeding, feeding_starts, feeding_room, turn_some, turn_within, feeding_more, feeding_stops}
+use Rattle.port.proofs.Feeding.{rest_of, feeding_starts, feeding_room, turn_some, turn_within, feeding_more, feeding_stops}
 use borrow.Author.Rules.{rules}
-use Prim.Native.Nat.{◌-◌}
 use mathlib.Core.Logic.{inl, inr}
 use native.Mathlib.Omega.{arith}
-use lib.ListN.{length}
 use Rattle.laws.proofs.Put.{put_length}
-use Rattle.port.specs.Turn.{whole}
 use Rattle.port.proofs.fed.Goals as goal
 
 pub loop-i-init : goal.loop-i-init
@@ -21,13 +18,13 @@ pub turn-turned-requires : goal.turn-turned-requires
 turn-turned-requires c = (c.loop-i.invariant.sound, omega (arith, feeding_room c.loop-i.invariant))
 
 pub overflow_add-i : goal.overflow_add-i
-overflow_add-i c = omega (arith, turn_within c.loop-i.invariant (rw rest_of at c.turn-turned.ensures) c.loop-i-test.true (λ k. omega (arith, c.shared_slice_known-1.given k)), c.well_formed.1.1.1.0)
+overflow_add-i c = omega (arith, turn_within c.loop-i.invariant (rw rest_of at c.turn-turned.ensures) c.loop-i-test.true (λ k. search rules))
 
 pub loop-i-smaller : goal.loop-i-smaller
-loop-i-smaller c = omega (arith, turn_some c.loop-i.invariant (rw rest_of at c.turn-turned.ensures) c.loop-i-test.true (λ k. omega (arith, c.shared_slice_known-1.given k)))
+loop-i-smaller c = omega (arith, turn_some c.loop-i.invariant (rw rest_of at c.turn-turned.ensures) c.loop-i-test.true (λ k. search rules))
 
 pub loop-i-preserved : goal.loop-i-preserved
-loop-i-preserved c = feeding_more c.loop-i.invariant (rw rest_of at c.turn-turned.ensures) c.loop-i-test.true (λ k. omega (arith, c.shared_slice_known-1.given k)) c.if-out-o-lt-TURN_ROOM.false
+loop-i-preserved c = feeding_more c.loop-i.invariant (rw rest_of at c.turn-turned.ensures) c.loop-i-test.true (λ k. search rules) c.if-out-o-lt-TURN_ROOM.false
 
 pub shape_of-out : goal.shape_of-out
 shape_of-out c = put_length c.loop-i.invariant.put

@@ -1,10 +1,6 @@
-use Rattle.port.proofs.Feeding.{rest_of, Feeding, feeding_starts, feeding_room, turn_some, turn_within, feeding_more, feeding_stops}
-use borrow.Author.Rules.{rules}
+use Rattle.port.proofs.Feeding.{Feeding}
 use Prim.Native.Nat.{◌-◌}
-use mathlib.Core.Logic.{inl, inr}
-use native.Mathlib.Omega.{arith}
 use lib.ListN.{length}
-use Rattle.laws.proofs.Put.{put_length}
 use Rattle.port.specs.Turn.{whole}
 use Rattle.port.proofs.fed.Given as goal
 

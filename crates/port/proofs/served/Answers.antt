@@ -1,13 +1,8 @@
 use borrow.Author.Rules.{rules}
-use Prim.Native.Nat.{◌-◌, ◌≤◌}
-use mathlib.Core.Path.{◌≡◌, refl, sym, ◌∙◌}
+use mathlib.Core.Path.{refl, sym, ◌∙◌}
 use native.Mathlib.Omega.{arith}
-use lib.ListN.{length}
 use lib.Seq.{length-take-le}
 use Rattle.laws.proofs.Put.{put_length}
-use Rattle.server.specs.Record.{all_buffers}
-use Rattle.port.specs.Turn.{SoundState}
-use Rattle.port.specs.Run.{turn_room}
 use Rattle.port.proofs.Feeding.{fed_sound, fed_long, fed_some}
 use Rattle.port.proofs.served.Goals as goal
 
@@ -24,10 +19,10 @@ pub slice_bounds-write_all-end-in-loop-i : goal.slice_bounds-write_all-end-in-lo
 slice_bounds-write_all-end-in-loop-i g c = sym (length-take-le _ _ (omega (arith, c.fed-fed.ensures.put.room, put_length c.fed-fed.ensures.put)))
 
 pub loop-i-smaller : goal.loop-i-smaller
-loop-i-smaller g c = omega (arith, fed_some c.args.block.now (λ k. omega (arith, c.shared_slice_known-1.given k)) c.fed-fed.ensures c.loop-i.invariant.0 c.loop-i.invariant.1 c.loop-i-test.true (omega arith))
+loop-i-smaller g c = omega (arith, fed_some c.args.block.now (λ k. search rules) c.fed-fed.ensures c.loop-i.invariant.0 c.loop-i.invariant.1 c.loop-i-test.true (omega arith))
 
 pub loop-i-preserved : goal.loop-i-preserved
-loop-i-preserved g c = (fed_sound c.args.block.now (λ k. omega (arith, c.shared_slice_known-1.given k)) c.fed-fed.ensures c.loop-i.invariant.0 c.loop-i.invariant.1, fed_long c.args.block.now (λ k. omega (arith, c.shared_slice_known-1.given k)) c.fed-fed.ensures c.loop-i.invariant.0 c.loop-i.invariant.1, c.loop-i.invariant.2, put_length c.fed-fed.ensures.put ∙ c.loop-i.invariant.3)
+loop-i-preserved g c = (fed_sound c.args.block.now (λ k. search rules) c.fed-fed.ensures c.loop-i.invariant.0 c.loop-i.invariant.1, fed_long c.args.block.now (λ k. search rules) c.fed-fed.ensures c.loop-i.invariant.0 c.loop-i.invariant.1, c.loop-i.invariant.2, put_length c.fed-fed.ensures.put ∙ c.loop-i.invariant.3)
 
 pub returns : goal.returns
 returns g c = c.loop-i.invariant.0

@@ -4,7 +4,6 @@ use Rattle.laws.proofs.Put.{nothing}
 use Rattle.output.specs.Output.{carriers_frame, levels_frame}
 use Rattle.port.specs.Event.{event_of}
 use Rattle.port.proofs.Quiet.{told}
-use borrow.Author.Rules.{rules}
 use Rattle.port.proofs.event.answered.Goals as goal
 
 pub returns-in-Nothing : goal.returns-in-Nothing

@@ -1,6 +1,5 @@
 use Rattle.port.proofs.Quiet.{closed_bytes, closed_does}
 use native.Mathlib.Omega.{arith}
-use borrow.Author.Rules.{rules}
 use Rattle.port.proofs.event.closed.Goals as goal
 
 pub put_answer-requires : goal.put_answer-requires

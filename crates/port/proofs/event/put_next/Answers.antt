@@ -1,4 +1,3 @@
-use borrow.Author.Rules.{rules}
 use Rattle.port.proofs.event.put_next.Goals as goal
 
 pub returns-in-Nothing : goal.returns-in-Nothing

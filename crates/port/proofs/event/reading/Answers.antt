@@ -1,6 +1,5 @@
 use Rattle.port.proofs.Quiet.{reading_bytes, reading_does}
 use native.Mathlib.Omega.{arith}
-use borrow.Author.Rules.{rules}
 use Rattle.port.proofs.event.reading.Goals as goal
 
 pub put_answer-requires : goal.put_answer-requires

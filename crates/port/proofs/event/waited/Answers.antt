@@ -1,7 +1,6 @@
 use Rattle.port.proofs.Quiet.{wait_bytes, wait_brief, wait_does}
 use native.Mathlib.Omega.{arith}
 use Rattle.laws.proofs.Put.{put_length, then}
-use borrow.Author.Rules.{rules}
 use Rattle.port.proofs.event.waited.Goals as goal
 
 pub put_answer-a-requires : goal.put_answer-a-requires

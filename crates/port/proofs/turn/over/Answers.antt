@@ -1,7 +1,6 @@
 use mathlib.Core.Path.{refl}
 use native.Mathlib.Omega.{arith}
 use lib.ListN.{length-take}
-use borrow.Author.Rules.{rules}
 use Rattle.port.proofs.turn.over.Goals as goal
 
 pub overflow_sub-left : goal.overflow_sub-left

@@ -4,7 +4,6 @@ use lib.ListN.{length, length-take}
 use Rattle.laws.proofs.Put.{put_length}
 use Rattle.output.proofs.Laying.{answer_fits}
 use Rattle.port.proofs.Pieces.{served_text, served_size, served_fits, served_in_range, served_used, piece_turns}
-use borrow.Author.Rules.{rules}
 use Rattle.port.proofs.turn.piece.Goals as goal
 
 pub slice_bounds-reply-end : goal.slice_bounds-reply-end

@@ -2,7 +2,6 @@ use mathlib.Core.Path.{refl}
 use native.Mathlib.Omega.{arith}
 use Rattle.laws.proofs.Put.{nothing}
 use Rattle.port.specs.Turn.{turn_of}
-use borrow.Author.Rules.{rules}
 use Rattle.port.proofs.turn.turn.Goals as goal
 
 pub returns-in-Head : goal.returns-in-Head

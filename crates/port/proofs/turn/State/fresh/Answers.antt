@@ -1,4 +1,3 @@
-use borrow.Author.Rules.{rules}
 use Rattle.port.proofs.turn.State.fresh.Goals as goal
 
 pub returns : goal.returns

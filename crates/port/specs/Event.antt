@@ -1,5 +1,5 @@
--- What an event makes: the server after it, and the frames that answer it. docs/PORT-OTHER.md: "A piece, a closing and a reading that say nothing give no
--- frame, and a wait that completes nothing gives none."
+-- What an event makes: the server after it, and the frames that answer it. docs/PORT-OTHER.md: "A piece, a closing and a reading that say
+-- nothing give no frame, and a wait that completes nothing gives none."
 use Rattle.std.specs.Prelude.{ℕ, ◌≡◌, List, [], ◌++◌}
 use Rattle.laws.specs.Put.{Put}
 use Rattle.hub.specs.Calls.{carriers_of, levels_of}

@@ -1,5 +1,5 @@
--- A turn: the next bytes of a block, as many as belong together. docs/PORT-OTHER.md: "a piece's bytes are served as they come, all other frames when they are
--- whole." "A line is answered at its CR".
+-- A turn: the next bytes of a block, as many as belong together. docs/PORT-OTHER.md: "a piece's bytes are served as they come, all other
+-- frames when they are whole." "A line is answered at its CR".
 use Rattle.std.specs.Prelude.{ℕ, ◌-◌, ◌≡◌, List, [], ◌++◌, length, take}
 use Rattle.laws.specs.Put.{Put}
 use Rattle.server.specs.declared.Server.{Server}

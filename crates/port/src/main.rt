@@ -1,5 +1,5 @@
-// The port's program: a server on standard input and output, in frames (docs/PORT-OTHER.md). It reads what there is, in blocks, and writes every answer
-// to that before it reads again.
+// The port's program: a server on standard input and output, in frames (docs/PORT-OTHER.md). It reads what there is, in blocks, and
+// writes every answer to that before it reads again.
 #![tactic(auto)]
 
 ghost use Rattle.std.specs.Prelude.{◌≡◌, ◌≤◌, length};
@@ -63,7 +63,8 @@ fn fed(
     }
 }
 
-// All of a block: what was laid is written out until nothing of the block is left. What cannot be written is let go, as where it went nobody reads.
+// All of a block: what was laid is written out until nothing of the block is left. What cannot be written is let go, as where it went
+// nobody reads.
 fn served(
     rt: &impl Print,
     state: State,

@@ -1,5 +1,5 @@
 use native.Mathlib.Omega.{arith}
-use Rattle.log_book.proofs.Numbers.{small, more}
+use Rattle.log_book.proofs.Numbers.{small}
 use Rattle.log_book.proofs.item.number_of.Goals as goal
 
 pub overflow_mul-value : goal.overflow_mul-value
@@ -11,8 +11,3 @@ pub overflow_add-value : goal.overflow_add-value
 overflow_add-value c =
     let was = c.loop-i in
     omega (arith, small was.value was.i (omega arith) was.invariant.1)
-
-pub loop-i-preserved : goal.loop-i-preserved
-loop-i-preserved c =
-    let was = c.loop-i in
-    (was.invariant.0, more was.value was.i _ was.invariant.1)

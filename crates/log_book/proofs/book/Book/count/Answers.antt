@@ -2,16 +2,7 @@ use Rattle.logger.proofs.Tallies.{counted_sound}
 use Rattle.log_book.proofs.Books.{set_sound}
 use Rattle.log_book.proofs.book.Book.count.Goals as goal
 
-pub loop-slot-init : goal.loop-slot-init
-loop-slot-init c = c.requires.each
-
-pub count-requires : goal.count-requires
-count-requires c = let was = c.loop-slot in was.invariant was.slot
-
 pub loop-slot-preserved : goal.loop-slot-preserved
 loop-slot-preserved c =
     let was = c.loop-slot in
     set_sound was.tallies was.slot c.count.result was.invariant (rw c.count.ensures (counted_sound _ _ (was.invariant was.slot)))
-
-pub returns : goal.returns
-returns c = record { each = c.loop-slot.invariant }

@@ -7,6 +7,10 @@ use Rattle.text.proofs.Reading.{digit_range}
 use Rattle.script.proofs.Figures.{figured_start, figured_small, figured_more, figured_bad, figured_end, figured_number, too_few, too_many}
 use borrow.Author.Rules.{rules}
 use Rattle.script.proofs.input.figures_of.Goals as goal
+use Rattle.script.proofs.input.figures_of.Goals.{Else-not-is_digit}
+
+dig : (c : Else-not-is_digit) → is_digit (get_or c.args.w.now c.loop-i.i 0) ≡ true
+dig c = sym c.is_digit.ensures ∙ c.if-not-is_digit.false
 
 pub returns-then-w-eq0 : goal.returns-then-w-eq0
 returns-then-w-eq0 c = rw (too_few _ c.if-w-eq0.true)
@@ -25,22 +29,22 @@ overflow_mul-value c = omega (arith, figured_small c.loop-i.invariant (omega ari
 
 pub overflow_sub-value : goal.overflow_sub-value
 overflow_sub-value c =
-    let dig : is_digit (get_or c.args.w.now c.loop-i.i 0) ≡ true = sym c.is_digit.ensures ∙ c.if-not-is_digit.false in
+    let dig = dig (goal.at.overflow_sub-value c).Else-not-is_digit in
     omega (arith, digit_range (get_or c.args.w.now c.loop-i.i 0) dig)
 
 pub overflow_cast-value : goal.overflow_cast-value
 overflow_cast-value c =
-    let dig : is_digit (get_or c.args.w.now c.loop-i.i 0) ≡ true = sym c.is_digit.ensures ∙ c.if-not-is_digit.false in
+    let dig = dig (goal.at.overflow_cast-value c).Else-not-is_digit in
     let d = digit_range (get_or c.args.w.now c.loop-i.i 0) dig in search rules
 
 pub overflow_add-value : goal.overflow_add-value
 overflow_add-value c =
-    let dig : is_digit (get_or c.args.w.now c.loop-i.i 0) ≡ true = sym c.is_digit.ensures ∙ c.if-not-is_digit.false in
+    let dig = dig (goal.at.overflow_add-value c).Else-not-is_digit in
     omega (arith, figured_small c.loop-i.invariant (omega arith), digit_range (get_or c.args.w.now c.loop-i.i 0) dig)
 
 pub loop-i-preserved : goal.loop-i-preserved
 loop-i-preserved c =
-    let dig : is_digit (get_or c.args.w.now c.loop-i.i 0) ≡ true = sym c.is_digit.ensures ∙ c.if-not-is_digit.false in
+    let dig = dig (goal.at.loop-i-preserved c).Else-not-is_digit in
     figured_more c.loop-i.invariant c.loop-i-test.true dig
 
 pub returns : goal.returns

@@ -11,6 +11,23 @@ use Rattle.connector.specs.Change.{owns}
 use Rattle.steps.specs.Send.{same_fields, same_command}
 use Rattle.steps.proofs.Deciding.{same_kept}
 use Rattle.steps.proofs.send.verdict_of.Goals as goal
+use Rattle.steps.proofs.send.verdict_of.Goals.{After-same, Else-not-owns, Else-not-same_fields, Start}
+
+owned : (c : Else-not-owns) → owns c.args.c.owner c.args.connection ≡ true
+owned c = sym c.owns.ensures ∙ c.if-not-owns.false
+
+fields : (c : Else-not-same_fields) → same_fields c.in-Running.run'.fields c.args.f ≡ true
+fields c = sym c.same_fields.ensures ∙ c.if-not-same_fields.false
+
+many : (c : Start) → length (pairs_of (counts_in c.args.counts.now c.args.count)) ≡ c.args.count
+many c = pairs_many _ _
+
+same :
+    (c : After-same) →
+    alike (take (2 * c.args.count) c.args.kept.now) (counts_of (pairs_of (counts_in c.args.counts.now c.args.count))) ≡ c.same.result
+same c =
+    let size : 2 * c.args.count ≤ length c.args.kept.now = omega (arith, c.requires) in
+    sym (same_kept _ _ _ size) ∙ sym c.same.ensures
 
 pub returns-then-not-owns : goal.returns-then-not-owns
 returns-then-not-owns c = rw (c.in-Running.is, sym c.owns.ensures ∙ c.if-not-owns.true)
@@ -18,15 +35,15 @@ returns-then-not-owns c = rw (c.in-Running.is, sym c.owns.ensures ∙ c.if-not-o
 pub returns-then-not-same_fields : goal.returns-then-not-same_fields
 unfolding same_command
 returns-then-not-same_fields c =
-    let owned : owns c.args.c.owner c.args.connection ≡ true = sym c.owns.ensures ∙ c.if-not-owns.false in
+    let owned = owned (goal.at.returns-then-not-same_fields c).Else-not-owns in
     rw (c.in-Running.is, owned, sym c.same_fields.ensures ∙ c.if-not-same_fields.true)
 
 pub returns-then-run-count : goal.returns-then-run-count
 unfolding same_command
 returns-then-run-count c =
-    let owned : owns c.args.c.owner c.args.connection ≡ true = sym c.owns.ensures ∙ c.if-not-owns.false in
-    let fields : same_fields c.in-Running.run'.fields c.args.f ≡ true = sym c.same_fields.ensures ∙ c.if-not-same_fields.false in
-    let many : length (pairs_of (counts_in c.args.counts.now c.args.count)) ≡ c.args.count = pairs_many _ _ in
+    let owned = owned (goal.at.returns-then-run-count c).Else-not-owns in
+    let fields = fields (goal.at.returns-then-run-count c).Else-not-same_fields in
+    let many = many (goal.at.returns-then-run-count c).Start in
     rw (c.in-Running.is, owned, fields, many, ne_eqb _ _ c.if-run-count.true)
 
 pub returns-in-Idle : goal.returns-in-Idle
@@ -35,25 +52,19 @@ returns-in-Idle c = rw c.in-Idle.is
 pub returns-then-same : goal.returns-then-same
 unfolding same_command
 returns-then-same c =
-    let owned : owns c.args.c.owner c.args.connection ≡ true = sym c.owns.ensures ∙ c.if-not-owns.false in
-    let fields : same_fields c.in-Running.run'.fields c.args.f ≡ true = sym c.same_fields.ensures ∙ c.if-not-same_fields.false in
-    let many : length (pairs_of (counts_in c.args.counts.now c.args.count)) ≡ c.args.count = pairs_many _ _ in
-    let same : (let a = c.args in alike (take (2 * a.count) a.kept.now) (counts_of (pairs_of (counts_in a.counts.now a.count))))
-    ≡ c.same.result =
-    let size : 2 * c.args.count ≤ length c.args.kept.now = omega (arith, c.requires) in
-    sym (same_kept _ _ _ size) ∙ sym c.same.ensures in
+    let owned = owned (goal.at.returns-then-same c).Else-not-owns in
+    let fields = fields (goal.at.returns-then-same c).Else-not-same_fields in
+    let many = many (goal.at.returns-then-same c).Start in
+    let same = same (goal.at.returns-then-same c).After-same in
     let kept = same ∙ c.if-same.true in
     rw (c.in-Running.is, owned, fields, many, eq-eqb _ _ c.if-run-count.false, kept)
 
 pub returns-else-same : goal.returns-else-same
 unfolding same_command
 returns-else-same c =
-    let owned : owns c.args.c.owner c.args.connection ≡ true = sym c.owns.ensures ∙ c.if-not-owns.false in
-    let fields : same_fields c.in-Running.run'.fields c.args.f ≡ true = sym c.same_fields.ensures ∙ c.if-not-same_fields.false in
-    let many : length (pairs_of (counts_in c.args.counts.now c.args.count)) ≡ c.args.count = pairs_many _ _ in
-    let same : (let a = c.args in alike (take (2 * a.count) a.kept.now) (counts_of (pairs_of (counts_in a.counts.now a.count))))
-    ≡ c.same.result =
-    let size : 2 * c.args.count ≤ length c.args.kept.now = omega (arith, c.requires) in
-    sym (same_kept _ _ _ size) ∙ sym c.same.ensures in
+    let owned = owned (goal.at.returns-else-same c).Else-not-owns in
+    let fields = fields (goal.at.returns-else-same c).Else-not-same_fields in
+    let many = many (goal.at.returns-else-same c).Start in
+    let same = same (goal.at.returns-else-same c).After-same in
     let kept = same ∙ c.if-same.false in
     rw (c.in-Running.is, owned, fields, many, eq-eqb _ _ c.if-run-count.false, kept)

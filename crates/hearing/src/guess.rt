@@ -37,6 +37,7 @@ fn value_at(s: &[u8], at: usize) -> u64
 }
 
 // IR,m:p,mode
+#[tactic(auto, unfolding(crate::specs::Guess::mode_guess))]
 fn mode_guess(s: &[u8]) -> Heard
     ensures { result ≡ mode_guess s.now }
 {

@@ -6,6 +6,7 @@ use mathlib.Core.List.{List, [], ◌∷◌, ◌++◌, map}
 use native.Mathlib.Nat.{zero-add}
 use native.Mathlib.Omega.{arith}
 use borrow.Author.Tests.{lt-ltb, le-ltb, le-leb, lt-leb, ltb-true, ltb-false, ne_eqb, eqb-true}
+use Rattle.std.specs.Prelude.{Some, Ok, Err}
 use lib.Dec.{ltb, leb, eqb}
 use lib.ListN.{length}
 use Rattle.laws.specs.Checks.{between}
@@ -67,7 +68,7 @@ module _ (a : Place) (m : Wide a.m) (port : Wide a.port) where
     module_same : between least most a.m ≡ true → counts (decimal a.m) ≡ a.m
     module_same e = counts_same a.m m (omega (arith, between_most least most a.m e))
 
-    place_fault_law : address_fault n taken ≡ place_fault least most a
+    place_fault_law : address_fault n taken ≡ cond (eqb (place_fault least most a) 0) (Ok tt) (Err (place_fault least most a))
     unfolding address_fault place_fault
     place_fault_law =
         rw (range (counts (decimal a.m)), counts_between a.m m least most small)

@@ -1,5 +1,5 @@
 -- The record of a connector. Document 01: "every connector in mode IR and idle, every contact unread".
-use Rattle.std.specs.Prelude.{◌≤◌, ◌≡◌}
+use Rattle.std.specs.Prelude.{◌≤◌, ◌≡◌, Option, Some, None}
 use Rattle.pace.specs.Pace.{SoundPace}
 use Rattle.lamp.specs.Lamp.{SoundLamp, dark}
 use Rattle.request.specs.declared.mode.Mode.{Mode}
@@ -12,8 +12,6 @@ use Rattle.connector.specs.declared.Sending.{Sending}
 use Rattle.connector.specs.declared.Sending.TheVariants.{Idle, Running}
 use Rattle.connector.specs.declared.Connector.{Connector}
 use Rattle.connector.specs.declared.Answer.{Answer}
-use Rattle.connector.specs.declared.Change.{Change}
-use Rattle.connector.specs.declared.Change.TheVariants.{Nothing, Becomes}
 use Rattle.connector.specs.declared.Stepped.{Stepped}
 
 -- in the mode that it wakes in
@@ -45,15 +43,15 @@ pub record SoundConnector (c : Connector) : Type 0 where
   pub lights : SoundLamp c.lamp
 
 -- and what becomes of one is sound
-abbrev pub SoundChange : Change → Type 0
-SoundChange Nothing = Unit
-SoundChange (Becomes c) = SoundConnector c
+abbrev pub SoundChange : Option Connector → Type 0
+SoundChange None = Unit
+SoundChange (Some c) = SoundConnector c
 
 -- the connector after a change
-abbrev pub changed : Connector → Change → Connector
-changed c Nothing = c
-changed c (Becomes next) = next
+abbrev pub changed : Connector → Option Connector → Connector
+changed c None = c
+changed c (Some next) = next
 
 -- what an answer and a change are together
-abbrev pub stepping : Answer → Change → Stepped
+abbrev pub stepping : Answer → Option Connector → Stepped
 stepping a x = record { answer = a; change = x }

@@ -71,18 +71,11 @@ pub enum Answer {
     Reply { reply: Reply, also: Owner },
 }
 
-// What becomes of a connector: it stays as it is, or it becomes another record.
-#[derive(Clone, Copy)]
-pub enum Change {
-    Nothing,
-    Becomes(Connector),
-}
-
-// What a request to a connector gives: the answer and the change.
+// What a request to a connector gives: the answer, and what the connector becomes, or None where it stays as it is.
 #[derive(Clone, Copy)]
 pub struct Stepped {
     pub answer: Answer,
-    pub change: Change,
+    pub change: Option<Connector>,
 }
 
 // A transmission that is complete: for whom, when, counted from the wait's start, on which connector, and its command's id.

@@ -8,6 +8,7 @@ use mathlib.Core.Option.{Option, none, some}
 use native.Mathlib.Omega.{arith}
 use lib.Dec.{ltb}
 use lib.ListN.{length, take}
+use Rattle.std.proofs.Common.{Some, None}
 use Rattle.laws.specs.Put.{stored_in}
 use Rattle.laws.proofs.Choice.{by_test, cond_case}
 use Rattle.laws.proofs.Numbers.{numbers_part}
@@ -36,7 +37,6 @@ use Rattle.connector.specs.declared.Contact.TheVariants.{Unread, Read}
 use Rattle.connector.specs.declared.Connector.{Connector}
 use Rattle.connector.specs.declared.Answer.{Answer}
 use Rattle.connector.specs.declared.Answer.TheVariants as answer
-use Rattle.connector.specs.declared.Change.TheVariants as becoming
 use Rattle.connector.specs.declared.Stepped.{Stepped}
 use Rattle.connector.specs.Record.{changed, stepping}
 use Rattle.connector.specs.Change as change
@@ -61,11 +61,11 @@ pub record StepMeans (t : ℕ) (a : Answer) (x y : Known) (made : Made) : Type 0
   pub held : HeldIn made.kept (until t y.sending)
 
 -- an answer that changes nothing
-still : {t : ℕ} {x : Known} (a : Answer) → Steps t a x x (stepping a becoming.Nothing)
+still : {t : ℕ} {x : Known} (a : Answer) → Steps t a x x (stepping a None)
 still a = record { said = refl; becomes = refl }
 
 -- another record
-anew : {t : ℕ} {x y : Known} (a : Answer) (c : Connector) → c ≡ shown t y → Steps t a x y (stepping a (becoming.Becomes c))
+anew : {t : ℕ} {x y : Known} (a : Answer) (c : Connector) → c ≡ shown t y → Steps t a x y (stepping a (Some c))
 anew a c e = record { said = refl; becomes = e }
 
 -- ---- a reading

@@ -64,13 +64,6 @@ pub struct Waited {
     pub completions: Completions,
 }
 
-// A line that was written, with its length, or a refusal.
-#[derive(Clone, Copy)]
-pub enum Written {
-    Refused(u64),
-    Line(usize),
-}
-
 impl Hub {
     pub const CONNECTORS: usize = Place::CONNECTORS;
 
@@ -216,19 +209,15 @@ impl Hub {
         }
     }
 
-    // Writes a completion's line.
-    pub fn write_completion(completion: Completion, buf: &mut [u8]) -> Written
+    // Writes a completion's line: its length, or the number of a refusal.
+    pub fn write_completion(completion: Completion, buf: &mut [u8]) -> Result<usize, u64>
         ensures { CompletionWritten completion buf.old result buf.new }
     {
         if buf.len() < Reply::ROOM {
-            return Written::Refused(101);
+            return Err(101);
         }
-        let place = completion.place;
-        let reply = Reply::Complete {
-            place,
-            id: completion.id,
-        };
-        Written::Line(reply::put_reply(buf, reply))
+        let Completion { place, id, .. } = completion;
+        Ok(reply::put_reply(buf, Reply::Complete { place, id }))
     }
 }
 

@@ -8,7 +8,7 @@ ghost use Rattle.steps.specs.Step.{Makes, command_step, send_step};
 
 use crate::answers::{fails, says};
 use code::Code;
-use connector::{Answer, Change, Connector, Owner, Run, Sending, Stepped};
+use connector::{Answer, Connector, Owner, Run, Sending, Stepped};
 use pace::Pace;
 use reply::Reply;
 use request::Place;
@@ -108,16 +108,12 @@ fn commanded(
             let owner = Owner::Connection(connection);
             Stepped {
                 answer: Answer::Taken,
-                change: Change::Becomes(connector::records::with_sending(
-                    c,
-                    owner,
-                    Sending::Running(run),
-                )),
+                change: Some(connector::records::with_sending(c, owner, Sending::Running(run))),
             }
         }
         Verdict::Renew => Stepped {
             answer: Answer::Taken,
-            change: Change::Becomes(connector::records::renewed(c)),
+            change: Some(connector::records::renewed(c)),
         },
         Verdict::Busy => says(Reply::Busy {
             place,

@@ -5,7 +5,7 @@ use native.Mathlib.Omega.{arith}
 use borrow.Author.Tests.{eqb-false}
 use lib.Dec.{eqb}
 use Rattle.laws.proofs.Choice.{cond_case}
-use Rattle.text.specs.declared.field.Field.{Field}
+use Rattle.std.proofs.Common.{Option}
 use Rattle.text.specs.Field.{after_comma, field_within}
 use Rattle.text.proofs.Limits.{field_case}
 use Rattle.command.specs.declared.fields.FieldsRead.{FieldsRead}
@@ -16,7 +16,7 @@ use Rattle.command.proofs.Capping.{capped_high, capped_low}
 -- a field that must be good is within its limits in what follows
 need_within : (least most number : ℕ) (s : List ℕ) (at : ℕ) (go : ℕ → ℕ → FieldsRead)
     → ((v end : ℕ) → least ≤ v → v ≤ most → ReadWithin (go v end)) → ReadWithin (need (field_within least most s at) number go)
-need_within least most number s at go good = field_case (λ (f : Field). ReadWithin (need f number go)) least most s at tt good
+need_within least most number s at go good = field_case (λ (f : Option (ℕ × ℕ)). ReadWithin (need f number go)) least most s at tt good
 
 -- the fields of every sendir keep to the limits
 pub fields_within : (s : List ℕ) (at : ℕ) → ReadWithin (fields_at s at)

@@ -1,9 +1,7 @@
 -- Document 01: "id 0 to 65535; freq 15000 to 500000 Hz; repeat 1 to 999999, and above 20 is taken as 20 (002); offset odd,
 -- 1 to 383." 004, 005, 006, 007: "id, freq, repeat, offset missing, not a number or out of range".
-use Rattle.std.specs.Prelude.{ℕ, ◌%◌, ◌≤◌, ◌≡◌, List, cond, ltb, eqb}
+use Rattle.std.specs.Prelude.{ℕ, ◌%◌, ◌≤◌, ◌≡◌, List, cond, ltb, eqb, Option, Some, None}
 use Rattle.text.specs.Field.{after_comma, field_within}
-use Rattle.text.specs.declared.field.Field.{Field}
-use Rattle.text.specs.declared.field.Field.TheVariants as field
 use Rattle.code.specs.Limits.{most_id, least_freq, most_freq, most_repeat, most_offset}
 use Rattle.words.specs.declared.Fields.{Fields}
 use Rattle.command.specs.declared.fields.FieldsRead.{FieldsRead}
@@ -16,9 +14,9 @@ abbrev pub fields_of : ℕ → ℕ → ℕ → ℕ → Fields
 fields_of id freq repeat offset = record { id = id; freq = freq; repeat = repeat; offset = offset }
 
 -- a field that must be good: its fault's number, or what follows from its value and its end
-abbrev pub need : Field → ℕ → (ℕ → ℕ → FieldsRead) → FieldsRead
-need field.Bad number go = Fault number
-need (field.Good value end) number go = go value end
+abbrev pub need : Option (ℕ × ℕ) → ℕ → (ℕ → ℕ → FieldsRead) → FieldsRead
+need None number go = Fault number
+need (Some (value, end)) number go = go value end
 
 -- what begins at a place behind the address; the code begins behind the offset's comma
 unfoldable pub fields_at : List ℕ → ℕ → FieldsRead

@@ -3,7 +3,6 @@ ghost use Rattle.std.specs.Prelude.{◌≡◌};
 ghost use Rattle.command.specs.Fields.{capped, fields_at};
 
 use code::Code;
-use text::field::Field;
 use words::Fields;
 
 // A sendir behind its address: the first fault of its fields, or the fields and where the code begins.
@@ -27,20 +26,19 @@ pub fn capped(repeat: u64) -> u64
 pub fn fields_at(s: &[u8], at: usize) -> FieldsRead
     ensures { result ≡ fields_at s.now at }
 {
-    let Field::Good(id, a) = text::field::field_within(s, at, 0, Code::MOST_ID) else {
+    let Some((id, a)) = text::field::field_within(s, at, 0, Code::MOST_ID) else {
         return FieldsRead::Fault(4);
     };
     let b = text::field::after_comma(s, a);
-    let Field::Good(freq, c) = text::field::field_within(s, b, Code::LEAST_FREQ, Code::MOST_FREQ)
-    else {
+    let Some((freq, c)) = text::field::field_within(s, b, Code::LEAST_FREQ, Code::MOST_FREQ) else {
         return FieldsRead::Fault(5);
     };
     let d = text::field::after_comma(s, c);
-    let Field::Good(repeat, e) = text::field::field_within(s, d, 1, Code::MOST_REPEAT) else {
+    let Some((repeat, e)) = text::field::field_within(s, d, 1, Code::MOST_REPEAT) else {
         return FieldsRead::Fault(6);
     };
     let f = text::field::after_comma(s, e);
-    let Field::Good(offset, g) = text::field::field_within(s, f, 1, Code::MOST_OFFSET) else {
+    let Some((offset, g)) = text::field::field_within(s, f, 1, Code::MOST_OFFSET) else {
         return FieldsRead::Fault(7);
     };
     if offset % 2 == 0 {

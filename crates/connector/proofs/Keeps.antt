@@ -4,6 +4,7 @@ use mathlib.Core.Path.{◌≡◌, refl}
 use mathlib.Core.Bool.{not}
 use borrow.Author.Tests.{leb-false, ltb-false}
 use lib.Dec.{leb, ltb, eqb}
+use Rattle.std.proofs.Common.{Option, Some, None}
 use Rattle.laws.proofs.Choice.{cond_case}
 use Rattle.pace.specs.declared.Pace.{Pace}
 use Rattle.pace.specs.declared.Passed.{Passed}
@@ -21,8 +22,6 @@ use Rattle.connector.specs.declared.Run.{Run}
 use Rattle.connector.specs.declared.Sending.{Sending}
 use Rattle.connector.specs.declared.Sending.TheVariants.{Idle, Running}
 use Rattle.connector.specs.declared.Connector.{Connector}
-use Rattle.connector.specs.declared.Change.{Change}
-use Rattle.connector.specs.declared.Change.TheVariants.{Nothing, Becomes}
 use Rattle.connector.specs.declared.Stepped.{Stepped}
 use Rattle.connector.specs.declared.pass.Passing.{Passing}
 use Rattle.connector.specs.Record.{fresh_connector, SoundRun, SoundSending, SoundConnector, SoundChange, changed}
@@ -35,9 +34,9 @@ pub fresh_connector_law : (mode : Mode) → SoundConnector (fresh_connector mode
 fresh_connector_law mode = record { sends = refl; reads = tt; lights = dark_sound }
 
 -- what a change makes of a sound connector
-pub changed_sound : (c : Connector) (change : Change) → SoundConnector c → SoundChange change → SoundConnector (changed c change)
-changed_sound c Nothing k s = k
-changed_sound c (Becomes next) k s = s
+pub changed_sound : (c : Connector) (change : Option Connector) → SoundConnector c → SoundChange change → SoundConnector (changed c change)
+changed_sound c None k s = k
+changed_sound c (Some next) k s = s
 
 -- ---- the records that it may become
 

@@ -18,7 +18,7 @@ use Rattle.words.specs.Digits.{is_digit, worth}
 use Rattle.meaning.specs.Line.{is, is_number, within, is_address}
 use Rattle.text.specs.declared.number.Number.{Number}
 use Rattle.text.specs.declared.number.Number.TheVariants.{Missing, TooLong, Value}
-use Rattle.text.specs.declared.field.Field.TheVariants.{Bad, Good}
+use Rattle.std.proofs.Common.{Some, None}
 use Rattle.text.specs.Number.{run, number_of, number_at}
 use Rattle.text.specs.Field as field
 use Rattle.text.specs.Field.{ends_field, after_comma, field_is, field_within}
@@ -182,10 +182,10 @@ module _ (s : List ℕ) (at : ℕ) where
       (by_test (eqb (length (run (drop at s))) 0) (λ f. rw f missing) λ f. rw f
       (by_test (ltb 6 (length (run (drop at s)))) (λ g. rw g (long _ (whole_at ∙ e))) (λ g. rw g (other _ _ (whole_at ∙ e))))))
 
-  within_at : (least most : ℕ) → field_within least most s at ≡ cond (within least most field_at) (Good (worth 0 field_at) (at + length field_at)) Bad
+  within_at : (least most : ℕ) → field_within least most s at ≡ cond (within least most field_at) (Some (worth 0 field_at, at + length field_at)) None
   unfolding field_within within
   within_at least most =
-      number_at_law (field.within least most s) Bad refl (λ end e. refl) (λ v end e. rw e)
+      number_at_law (field.within least most s) None refl (λ end e. refl) (λ v end e. rw e)
       ∙ by_test (is_number field_at)
       (λ e. rw e (by_test (leb (length field_at) 6) (λ f. rw (f, ends_at, between_checks)) (λ f. rw f)))
       (λ e. rw e)
@@ -357,7 +357,7 @@ module _ {s : List ℕ} {k at : ℕ} (c : Cursor s k at) where
       (λ e. rw e (le-ltb 0 (count 44 s - k) (omega (arith, ltb-false (suc k) (suc (count 44 s)) e)))))
 
   pub within_is : (least most : ℕ)
-      → field_within least most s at ≡ cond (within least most (part 44 k s)) (Good (worth 0 (part 44 k s)) (at + length (part 44 k s))) Bad
+      → field_within least most s at ≡ cond (within least most (part 44 k s)) (Some (worth 0 (part 44 k s), at + length (part 44 k s))) None
   within_is least most = within_at s at least most ∙ rw field_is_law
 
   pub address_is_at : address_at s at

@@ -11,7 +11,7 @@ use Rattle.laws.specs.Checks.{one_of}
 use Rattle.laws.specs.Lists.{all}
 use Rattle.laws.proofs.Choice.{cond_case, not_both}
 use Rattle.words.specs.Places.{ports_of}
-use Rattle.text.specs.declared.field.Field.{Field}
+use Rattle.std.proofs.Common.{Option}
 use Rattle.text.specs.Field.{after_comma}
 use Rattle.text.proofs.Limits.{field_case}
 use Rattle.request.specs.declared.Place.{Place}
@@ -62,20 +62,20 @@ set_ir_within s place at p = go (mode_at s at)
 set_state_within : (s : List ℕ) (place : Place) (at : ℕ) → RelayAt place → Within (set_state_at s place at)
 unfolding set_state_at
 set_state_within s place at p =
-    field_case (λ (f : Field). Within (state_read s place f)) 0 1 s at (no_state p)
+    field_case (λ (f : Option (ℕ × ℕ)). Within (state_read s place f)) 0 1 s at (no_state p)
     (λ state end _ most. alone_within s end (Relay place (Set state)) (p, most))
 
 -- set_LED_LIGHTING: its target is 1 to 100, its ramp 0 to 10
 ramp_within : (s : List ℕ) (place : Place) (target at : ℕ) → ConnectorAt place → 1 ≤ target → target ≤ 100 → Within (ramp_at s place target at)
 unfolding ramp_at
 ramp_within s place target at p least most =
-    field_case (λ (f : Field). Within (ramp_read s place target f)) 0 10 s at (no_lamp p)
+    field_case (λ (f : Option (ℕ × ℕ)). Within (ramp_read s place target f)) 0 10 s at (no_lamp p)
     (λ ramp end _ fast. (p, (least, most, fast)))
 
 set_lamp_within : (s : List ℕ) (place : Place) (at : ℕ) → ConnectorAt place → Within (set_lamp_at s place at)
 unfolding set_lamp_at
 set_lamp_within s place at p =
-    field_case (λ (f : Field). Within (target_read s place f)) 1 100 s at (no_lamp p)
+    field_case (λ (f : Option (ℕ × ℕ)). Within (target_read s place f)) 1 100 s at (no_lamp p)
     (λ target end least most. ramp_within s place target (after_comma s end) p least most)
 
 -- the module and the port of an address that a request takes

@@ -1,12 +1,10 @@
 -- A line of bytes read into one request, or into its first fault that does not depend on the hub's state, in document 01's
 -- order: "015, 001, 017 for the address, 002, 003, then by request: .. set_IR 023, 014, 017;
 -- setstate 023, 017; stopir 017; getstate 017; get_IR 017. getdevices and getversion know only 017."
-use Rattle.std.specs.Prelude.{ℕ, List, [], ◌∷◌, Bool, false, cond, not, length, ltb, leb, eqb}
+use Rattle.std.specs.Prelude.{ℕ, List, [], ◌∷◌, Bool, false, cond, not, length, ltb, leb, eqb, Option, Some, None}
 use Rattle.laws.specs.Checks.{◌⇒◌, first}
 use Rattle.laws.specs.Lists.{all}
 use Rattle.text.specs.Field.{after_comma, field_within}
-use Rattle.text.specs.declared.field.Field.{Field}
-use Rattle.text.specs.declared.field.Field.TheVariants.{Bad, Good}
 use Rattle.request.specs.declared.Place.{Place}
 use Rattle.request.specs.declared.Ask.TheVariants.{SetMode, GetMode, GetContact, Send, Stop, SetLamp, GetLamp}
 use Rattle.request.specs.declared.Turn.TheVariants.{Set, Get}
@@ -49,9 +47,9 @@ unfoldable pub set_ir_at : List ℕ → Place → ℕ → Request
 set_ir_at s place at = mode_read s place (mode_at s at)
 
 -- setstate: 023, 017
-abbrev pub state_read : List ℕ → Place → Field → Request
-state_read s place Bad = Fault 23 place
-state_read s place (Good state end) = alone s end (Relay place (Set state))
+abbrev pub state_read : List ℕ → Place → Option (ℕ × ℕ) → Request
+state_read s place None = Fault 23 place
+state_read s place (Some (state, end)) = alone s end (Relay place (Set state))
 
 unfoldable pub set_state_at : List ℕ → Place → ℕ → Request
 set_state_at s place at = state_read s place (field_within 0 1 s at)
@@ -62,16 +60,16 @@ get_state_at s place end =
     cond (eqb place.m 1) (alone s end (Connector place GetContact)) (alone s end (Relay place Get))
 
 -- set_LED_LIGHTING: 023 for its fields. Whether the connector is a lamp comes before 017, so that the request carries whether there is more.
-abbrev pub ramp_read : List ℕ → Place → ℕ → Field → Request
-ramp_read s place target Bad = Fault 23 place
-ramp_read s place target (Good ramp end) = Connector place (SetLamp target ramp (ltb end (length s)))
+abbrev pub ramp_read : List ℕ → Place → ℕ → Option (ℕ × ℕ) → Request
+ramp_read s place target None = Fault 23 place
+ramp_read s place target (Some (ramp, end)) = Connector place (SetLamp target ramp (ltb end (length s)))
 
 unfoldable pub ramp_at : List ℕ → Place → ℕ → ℕ → Request
 ramp_at s place target at = ramp_read s place target (field_within 0 10 s at)
 
-abbrev pub target_read : List ℕ → Place → Field → Request
-target_read s place Bad = Fault 23 place
-target_read s place (Good target end) = ramp_at s place target (after_comma s end)
+abbrev pub target_read : List ℕ → Place → Option (ℕ × ℕ) → Request
+target_read s place None = Fault 23 place
+target_read s place (Some (target, end)) = ramp_at s place target (after_comma s end)
 
 unfoldable pub set_lamp_at : List ℕ → Place → ℕ → Request
 set_lamp_at s place at = target_read s place (field_within 1 100 s at)

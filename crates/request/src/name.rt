@@ -7,7 +7,7 @@ use crate::Fixed;
 use text::field::{byte_at, field_is};
 
 // The name of a request that has an address.
-#[derive(Clone, Copy)]
+#[derive(Clone, Copy, PartialEq, Eq)]
 pub enum Name {
     SetIr,
     GetIr,
@@ -19,7 +19,7 @@ pub enum Name {
     GetLamp,
 }
 
-#[derive(Clone, Copy)]
+#[derive(Clone, Copy, PartialEq, Eq)]
 pub enum Word {
     Alone(Fixed),
     Named(Name),

@@ -7,7 +7,7 @@ use crate::address::Address;
 use crate::mode::ModeRead;
 use crate::name::{Name, Word, WordRead};
 use crate::{Ask, Place, Request, Turn};
-use text::field::{Field, after_comma};
+use text::field::after_comma;
 
 // The longest line that is read.
 pub const MOST_BYTES: usize = 4096;
@@ -95,8 +95,8 @@ fn set_state_at(s: &[u8], place: Place, at: usize) -> Request
     ensures { result ≡ set_state_at s.now place at }
 {
     match text::field::field_within(s, at, 0, 1) {
-        Field::Bad => Request::Fault { number: 23, place },
-        Field::Good(state, end) => alone(s, end, Request::Relay(place, Turn::Set(state))),
+        None => Request::Fault { number: 23, place },
+        Some((state, end)) => alone(s, end, Request::Relay(place, Turn::Set(state))),
     }
 }
 
@@ -115,8 +115,8 @@ fn ramp_at(s: &[u8], place: Place, target: u8, at: usize) -> Request
     ensures { result ≡ ramp_at s.now place target at }
 {
     match text::field::field_within(s, at, 0, Ask::MOST_RAMP) {
-        Field::Bad => Request::Fault { number: 23, place },
-        Field::Good(ramp, end) => {
+        None => Request::Fault { number: 23, place },
+        Some((ramp, end)) => {
             let ramp = ramp as u8;
             let more = end < s.len();
             Request::Connector(place, Ask::SetLamp { target, ramp, more })
@@ -128,8 +128,8 @@ fn set_lamp_at(s: &[u8], place: Place, at: usize) -> Request
     ensures { result ≡ set_lamp_at s.now place at }
 {
     match text::field::field_within(s, at, 1, Ask::MOST_TARGET) {
-        Field::Bad => Request::Fault { number: 23, place },
-        Field::Good(target, end) => ramp_at(s, place, target as u8, after_comma(s, end)),
+        None => Request::Fault { number: 23, place },
+        Some((target, end)) => ramp_at(s, place, target as u8, after_comma(s, end)),
     }
 }
 

@@ -9,7 +9,7 @@ ghost use Rattle.steps.specs.Step.{Makes, command_step, send_step};
 use crate::answers::{fails, says};
 use code::Code;
 use command::read::CommandRead;
-use connector::{Answer, Change, Connector, Owner, Run, Sending, Stepped};
+use connector::{Answer, Connector, Owner, Run, Sending, Stepped};
 use pace::Pace;
 use reply::Reply;
 use request::Place;
@@ -109,16 +109,12 @@ fn commanded(
             let owner = Owner::Connection(connection);
             Stepped {
                 answer: Answer::Taken,
-                change: Change::Becomes(connector::records::with_sending(
-                    c,
-                    owner,
-                    Sending::Running(run),
-                )),
+                change: Some(connector::records::with_sending(c, owner, Sending::Running(run))),
             }
         }
         Verdict::Renew => Stepped {
             answer: Answer::Taken,
-            change: Change::Becomes(connector::records::renewed(c)),
+            change: Some(connector::records::renewed(c)),
         },
         Verdict::Busy => says(Reply::Busy {
             place,

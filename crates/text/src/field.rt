@@ -4,13 +4,6 @@ ghost use Rattle.text.specs.Field.{ends_field, after_comma, field_is, field_with
 
 use crate::number::Number;
 
-// A field that is a number within limits and the place where it ends, or none.
-#[derive(Clone, Copy)]
-pub enum Field {
-    Bad,
-    Good(u64, usize),
-}
-
 // The byte at a place, 0 behind the end.
 pub fn byte_at(s: &[u8], at: usize) -> u8
     ensures { result ≡ get_or s.now at 0 }
@@ -54,24 +47,15 @@ pub fn field_is(s: &[u8], at: usize, w: &[u8]) -> bool
     ends_field(s, i)
 }
 
-// The field at a place, if it is a number from least to most.
-pub fn field_within(s: &[u8], at: usize, least: u64, most: u64) -> Field
+// The field at a place, if it is a number from least to most, and the place where it ends.
+#[tactic(auto, unfolding(crate::specs::Field::field_within))]
+pub fn field_within(s: &[u8], at: usize, least: u64, most: u64) -> Option<(u64, usize)>
     ensures { result ≡ field_within least most s.now at }
 {
     match crate::number::number_at(s, at) {
-        Number::Missing => Field::Bad,
-        Number::TooLong(_) => Field::Bad,
-        Number::Value(value, end) => {
-            if !ends_field(s, end) {
-                return Field::Bad;
-            }
-            if value < least {
-                return Field::Bad;
-            }
-            if most < value {
-                return Field::Bad;
-            }
-            Field::Good(value, end)
+        Number::Value(value, end) if ends_field(s, end) && (least..=most).contains(&value) => {
+            Some((value, end))
         }
+        _ => None,
     }
 }

@@ -5,16 +5,16 @@ use Rattle.request.specs.Request.{set_lamp_at}
 use Rattle.request.proofs.read.set_lamp_at.Goals as goal
 
 pub overflow_cast-target : goal.overflow_cast-target
-overflow_cast-target c = omega (arith, good_most _ _ _ _ (sym c.field_within.ensures ∙ c.in-Good.is))
+overflow_cast-target c = omega (arith, good_most _ _ _ _ (sym c.field_within.ensures ∙ c.in-Some.is))
 
-pub returns-in-Bad : goal.returns-in-Bad
+pub returns-in-None : goal.returns-in-None
 unfolding set_lamp_at
-returns-in-Bad c = rw (sym c.field_within.ensures ∙ c.in-Bad.is)
+returns-in-None c = rw (sym c.field_within.ensures ∙ c.in-None.is)
 
-pub returns-in-Good : goal.returns-in-Good
+pub returns-in-Some : goal.returns-in-Some
 unfolding set_lamp_at
-returns-in-Good c =
+returns-in-Some c =
     rw (
-      sym c.field_within.ensures ∙ c.in-Good.is,
+      sym c.field_within.ensures ∙ c.in-Some.is,
       ← c.after_comma.ensures,
     ) c.ramp_at.ensures

@@ -2,10 +2,10 @@ use mathlib.Core.Path.{sym, ◌∙◌}
 use Rattle.request.specs.Request.{set_state_at}
 use Rattle.request.proofs.read.set_state_at.Goals as goal
 
-pub returns-in-Bad : goal.returns-in-Bad
+pub returns-in-None : goal.returns-in-None
 unfolding set_state_at
-returns-in-Bad c = rw (sym c.field_within.ensures ∙ c.in-Bad.is)
+returns-in-None c = rw (sym c.field_within.ensures ∙ c.in-None.is)
 
-pub returns-in-Good : goal.returns-in-Good
+pub returns-in-Some : goal.returns-in-Some
 unfolding set_state_at
-returns-in-Good c = rw (sym c.field_within.ensures ∙ c.in-Good.is) c.alone.ensures
+returns-in-Some c = rw (sym c.field_within.ensures ∙ c.in-Some.is) c.alone.ensures

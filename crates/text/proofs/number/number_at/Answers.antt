@@ -1,6 +1,5 @@
 use Prim.Native.Nat.{ℕ, ◌+◌, ◌-◌, ◌<◌}
 use mathlib.Core.Path.{◌≡◌, sym, ap, ◌∙◌}
-use mathlib.Core.Bool.{true}
 use mathlib.Core.List.{List, []}
 use native.Mathlib.Omega.{arith}
 use lib.ListN.{length, drop, get_or, length-drop}
@@ -8,7 +7,7 @@ use lib.Seq.{get_or-drop}
 use Rattle.laws.proofs.Lists.{leading_stop, leading_done}
 use Rattle.words.specs.Digits.{is_digit}
 use Rattle.text.specs.Number.{run}
-use Rattle.text.proofs.Reading.{reading_start, reading_more, reading_stop, reading_small, digit_range}
+use Rattle.text.proofs.Reading.{reading_more, reading_stop, reading_small, digit_range}
 use Rattle.text.proofs.number.number_at.Goals as goal
 use Rattle.text.proofs.number.number_at.Goals.{else-loop-b-test, then-loop-b-test+then-not-is_digit}
 
@@ -37,8 +36,8 @@ returns c = c.found.ensures ∙ sym (reading_stop c.loop-b.invariant.1 stop)
 
     stop : run (drop (c.args.at + c.loop-b.digits) c.args.s.now) ≡ []
     stop = elim c.loop-b-test.branch [
-      else-loop-b-test w ↦ leading_done is_digit c.args.s.now (c.args.at + c.loop-b.digits) (omega (arith, long)) |
-      then-loop-b-test+then-not-is_digit w ↦
-        let byte = stands c.args.s.now c.args.at _ _ c.onward-b-items.ensures c.loop-b.invariant.0 in
-        leading_stop is_digit c.args.s.now (c.args.at + c.loop-b.digits) (omega (arith, long)) (rw byte at (sym w.is_digit.ensures ∙ w.if-not-is_digit.true))
+      | else-loop-b-test w ↦ leading_done is_digit c.args.s.now (c.args.at + c.loop-b.digits) (omega (arith, long))
+      | then-loop-b-test+then-not-is_digit w ↦
+          let byte = stands c.args.s.now c.args.at _ _ c.onward-b-items.ensures c.loop-b.invariant.0 in
+          leading_stop is_digit c.args.s.now (c.args.at + c.loop-b.digits) (omega (arith, long)) (rw byte at (sym w.is_digit.ensures ∙ w.if-not-is_digit.true))
     ]

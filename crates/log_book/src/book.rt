@@ -2,7 +2,7 @@
 ghost use Rattle.log_book.specs.Book.{SoundBook};
 
 use logger::Heard;
-use logger::tally::{Average, Tally};
+use logger::tally::Tally;
 use request::Place;
 
 // Those of the connectors come first, then those of the relays.
@@ -64,7 +64,7 @@ impl Book {
     }
 
     // A place that has no state has no reading.
-    pub fn average(self, place: Place) -> Average {
+    pub fn average(self, place: Place) -> Option<(u64, u64)> {
         let tallies = self.tallies;
         let mut slot: usize = 0;
         while slot < Book::PLACES {
@@ -74,6 +74,6 @@ impl Book {
             }
             slot += 1;
         }
-        Average::NoReading
+        None
     }
 }

@@ -1,7 +1,6 @@
 // What is to be written, put behind what there is as far as there is room. A turn begins with room for all that it can say.
 use crate::scan;
 use itoa::Buffer;
-use logger::tally::Average;
 use logger::{Device, Heard};
 use request::Place;
 use request::mode::Mode;
@@ -104,10 +103,10 @@ pub fn put_heard(out: &mut [u8], used: usize, heard: Heard) -> usize {
     put_byte(out, o, b'\n')
 }
 
-pub fn put_average(out: &mut [u8], used: usize, average: Average) -> usize {
+pub fn put_average(out: &mut [u8], used: usize, average: Option<(u64, u64)>) -> usize {
     match average {
-        Average::NoReading => put_word(out, used, b"no reading\n"),
-        Average::Of(ones, readings) => {
+        None => put_word(out, used, b"no reading\n"),
+        Some((ones, readings)) => {
             let o = put_decimal(out, used, ones);
             let p = put_word(out, o, b" of ");
             let q = put_decimal(out, p, readings);

@@ -1,5 +1,5 @@
 -- The records that a connector may become, the same for each of them.
-use Rattle.std.specs.Prelude.{ℕ, Bool, true, false, cond, eqb}
+use Rattle.std.specs.Prelude.{ℕ, Bool, true, false, cond, eqb, Some}
 use Rattle.pace.specs.Pace as pace
 use Rattle.lamp.specs.declared.Lamp.{Lamp}
 use Rattle.lamp.specs.Lamp.{dark}
@@ -7,11 +7,11 @@ use Rattle.request.specs.declared.mode.Mode.{Mode}
 use Rattle.request.specs.declared.mode.Mode.TheVariants.{Ir, Sensor, IrBlaster, LedLighting}
 use Rattle.connector.specs.declared.Owner.{Owner}
 use Rattle.connector.specs.declared.Owner.TheVariants.{Nobody, Connection}
-use Rattle.connector.specs.declared.Contact.TheVariants.{Unread, Read}
 use Rattle.connector.specs.declared.Run.{Run}
 use Rattle.connector.specs.declared.Sending.{Sending}
 use Rattle.connector.specs.declared.Sending.TheVariants.{Idle, Running}
 use Rattle.connector.specs.declared.Connector.{Connector}
+use Rattle.connector.specs.Record.{unread}
 
 abbrev pub same_mode : Mode → Mode → Bool
 same_mode Ir Ir = true
@@ -35,10 +35,10 @@ same_mode LedLighting LedLighting = true
 unfoldable pub with_mode : Connector → Mode → Connector
 with_mode c mode =
     cond (same_mode c.mode mode) c
-    (record { owner = c.owner; mode = mode; contact = Unread; sending = c.sending; lamp = dark })
+    (record { owner = c.owner; mode = mode; contact = unread; sending = c.sending; lamp = dark })
 
 abbrev pub with_reading : Connector → ℕ → Connector
-with_reading c value = record { owner = c.owner; mode = c.mode; contact = Read value; sending = c.sending; lamp = c.lamp }
+with_reading c value = record { owner = c.owner; mode = c.mode; contact = Some value; sending = c.sending; lamp = c.lamp }
 
 abbrev pub with_lamp : Connector → Lamp → Connector
 with_lamp c lamp = record { owner = c.owner; mode = c.mode; contact = c.contact; sending = c.sending; lamp = lamp }

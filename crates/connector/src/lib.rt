@@ -11,18 +11,12 @@ use request::Place;
 use request::mode::Mode;
 use words::Fields;
 
-// Who hears of a transmission: a connection, or nobody.
+// Who hears of a transmission: a connection, or nobody. It stays an enum of its own, and no Option of a connection: document 01 has
+// "a transmission's owner is an enum, a connection or nobody".
 #[derive(Clone, Copy)]
 pub enum Owner {
     Nobody,
     Connection(u8),
-}
-
-// A contact: no reading since the hub or the mode began, or the last one.
-#[derive(Clone, Copy)]
-pub enum Contact {
-    Unread,
-    Read(u8),
 }
 
 // A transmission: the command's fields, its number of pairs, and how far it is.
@@ -43,7 +37,8 @@ pub enum Sending {
 pub struct Connector {
     pub owner: Owner,
     pub mode: Mode,
-    pub contact: Contact,
+    // The contact's last reading; None where it is unread, that is without one since the hub or the mode began.
+    pub contact: Option<u8>,
     pub sending: Sending,
     pub lamp: Lamp,
 }
@@ -55,7 +50,7 @@ impl Connector {
         Connector {
             owner: Owner::Nobody,
             mode,
-            contact: Contact::Unread,
+            contact: None,
             sending: Sending::Idle,
             lamp: Lamp::dark(),
         }

@@ -3,7 +3,7 @@ ghost use Rattle.std.specs.Prelude.{◌≡◌};
 ghost use Rattle.connector.specs.Record.{SoundSending};
 ghost use Rattle.connector.specs.Change.{same_mode, with_mode, with_reading, with_lamp, with_sending, is_running, renewed, owns};
 
-use crate::{Connector, Contact, Owner, Run, Sending};
+use crate::{Connector, Owner, Run, Sending};
 use lamp::Lamp;
 use request::mode::Mode;
 
@@ -51,7 +51,7 @@ pub fn with_mode(c: Connector, mode: Mode) -> Connector
     Connector {
         owner,
         mode,
-        contact: Contact::Unread,
+        contact: None,
         sending,
         lamp: Lamp::dark(),
     }
@@ -67,7 +67,7 @@ pub fn with_reading(c: Connector, value: u8) -> Connector
     Connector {
         owner,
         mode,
-        contact: Contact::Read(value),
+        contact: Some(value),
         sending,
         lamp,
     }

@@ -1,11 +1,10 @@
 -- What an event makes: the server after it, and the frames that answer it. docs/PORT-OTHER.md: "A piece, a closing and a reading that say
 -- nothing give no frame, and a wait that completes nothing gives none."
-use Rattle.std.specs.Prelude.{ℕ, ◌≡◌, List, [], ◌++◌}
+use Rattle.std.specs.Prelude.{ℕ, ◌≡◌, Option, Some, None, List, [], ◌++◌}
 use Rattle.laws.specs.Put.{Put}
 use Rattle.hub.specs.Calls.{carriers_of, levels_of}
 use Rattle.server.specs.declared.Server.{Server}
-use Rattle.server.specs.declared.Due.{Due}
-use Rattle.server.specs.declared.Due.TheVariants as due
+use Rattle.pace.specs.declared.Micros.{Micros}
 use Rattle.server.specs.Calls.{closed_call, reading_call, wait_call, due_of}
 use Rattle.frames.specs.declared.Event.{Event}
 use Rattle.frames.specs.declared.Event.TheVariants as event
@@ -19,9 +18,9 @@ pub record Outcome : Type 0 where
 abbrev pub outcome : Server → List ℕ → Outcome
 outcome s text = record { server = s; text = text }
 
-abbrev pub due_frames : Due → List ℕ
-due_frames due.Nothing = not_due_frame
-due_frames (due.In n) = due_frame n.0
+abbrev pub due_frames : Option Micros → List ℕ
+due_frames None = not_due_frame
+due_frames (Some n) = due_frame n.0
 
 abbrev pub closed_of : Server → ℕ → Outcome
 closed_of s connection =

@@ -11,7 +11,7 @@ use output::{
     put_answer, put_carriers, put_completions, put_due, put_levels, put_not_due, put_refusal,
 };
 use pace::Micros;
-use server::{Due, Server};
+use server::Server;
 
 // The server after an event, and the place behind its frames.
 #[derive(Clone, Copy)]
@@ -67,8 +67,8 @@ fn put_next(server: Server, out: &mut [u8], at: usize) -> usize
     ensures { Put out.old at (due_frames (due_of server)) out.new result }
 {
     match server.due() {
-        Due::Nothing => put_not_due(out, at),
-        Due::In(n) => put_due(out, at, n),
+        None => put_not_due(out, at),
+        Some(n) => put_due(out, at, n),
     }
 }
 

@@ -33,10 +33,10 @@ use Rattle.waveform.specs.Paced.{Fit, pace_at}
 use Rattle.waveform.proofs.Paced.{pace_started, pace_renewed, started_runs, renewed_runs, complete_later, passed_is, fit_later}
 use Rattle.waveform.proofs.Carried.{carrier_paced}
 use Rattle.connector.specs.declared.Owner.TheVariants.{Nobody, Connection}
-use Rattle.connector.specs.declared.Contact.TheVariants.{Unread}
 use Rattle.connector.specs.declared.Run.{Run}
 use Rattle.connector.specs.declared.Sending.TheVariants.{Idle, Running}
 use Rattle.connector.specs.declared.Connector.{Connector}
+use Rattle.connector.specs.Record.{unread}
 use Rattle.connector.specs.Change as change
 use Rattle.connector.specs.Change.{is_running, owns, owner_left, same_mode}
 use Rattle.connector.specs.Pass.{passing, passing_run, passing_lamp, after, done_of}
@@ -152,12 +152,12 @@ pub with_mode_shown : (t : ℕ) (x : Known) (mode : Mode) → transmits t x ≡ 
     → shown t (with_mode x mode) ≡ change.with_mode (shown t x) mode
 unfolding change.with_mode shown_at
 with_mode_shown t x mode e =
-    cond_map (shown t) (same_mode x.mode mode) x (record { owner = x.owner; mode = mode; contact = Unread; sending = x.sending; lamp = dark })
+    cond_map (shown t) (same_mode x.mode mode) x (record { owner = x.owner; mode = mode; contact = unread; sending = x.sending; lamp = dark })
     ∙ go (until t x.sending) e
   where
     go : (o : Option Transmission) → is_some o ≡ false
         → cond (same_mode x.mode mode) (shown_as t x o)
-        (shown_as t (record { owner = x.owner; mode = mode; contact = Unread; sending = x.sending; lamp = dark }) o)
+        (shown_as t (record { owner = x.owner; mode = mode; contact = unread; sending = x.sending; lamp = dark }) o)
         ≡ change.with_mode (shown_as t x o) mode
     go none e = refl
     go (some s) e = not_both refl e

@@ -7,7 +7,7 @@ ghost use Rattle.connector.specs.Record.{SoundConnector};
 ghost use Rattle.steps.specs.Step.{set_mode, get_mode, get_contact, also_told, stops, lamp_reply, of_lamp, set_lamp, get_lamp, Makes, step_of};
 
 use crate::answers::{fails, says};
-use connector::{Answer, Connector, Contact, Owner, Sending, Stepped};
+use connector::{Answer, Connector, Owner, Sending, Stepped};
 use lamp::Lamp;
 use reply::Reply;
 use request::mode::Mode;
@@ -46,14 +46,13 @@ fn get_contact(c: Connector, place: Place) -> Stepped
     if !request::mode::is_sensor(mode) {
         return fails(18, place);
     }
-    let contact = c.contact;
-    match contact {
-        Contact::Unread => fails(28, place),
-        Contact::Read(value) => says(Reply::State {
-            place,
-            state: value as u64,
-        }),
-    }
+    let Some(value) = c.contact else {
+        return fails(28, place);
+    };
+    says(Reply::State {
+        place,
+        state: u64::from(value),
+    })
 }
 
 // Whom a stopir tells besides the asker: the owner, if another connection.

@@ -6,12 +6,12 @@ ghost use Rattle.laws.specs.Put.{Put};
 ghost use Rattle.laws.specs.Bytes.{bytes};
 ghost use Rattle.words.specs.Decimal.{decimal, three_digits};
 ghost use Rattle.request.specs.Mode.{mode_word};
-ghost use Rattle.text.specs.Out.{Room, Wrote};
+ghost use Rattle.text.specs.Write.{Room, Wrote};
 ghost use Rattle.reply.specs.Reply.{address_text, fixed_text, reply_text};
 
 use request::mode::Mode;
 use request::{Fixed, Place};
-use text::out::Out;
+use text::write::Out;
 
 #[derive(Clone, Copy)]
 pub enum Reply {

@@ -3,8 +3,8 @@ use mathlib.Core.Path.{◌∙◌}
 use mathlib.Core.List.{List, ◌++◌}
 use Prim.Native.Nat.{ℕ}
 use Rattle.laws.proofs.Put.{then}
-use Rattle.text.specs.declared.out.Out.{Out}
-use Rattle.text.specs.Out.{Wrote}
+use Rattle.text.specs.declared.write.Out.{Out}
+use Rattle.text.specs.Write.{Wrote}
 
 -- one text behind the other
 pub and_then : {a b c : Out} {s t : List ℕ} → Wrote a b s → Wrote b c t → Wrote a c (s ++ t)

@@ -1,7 +1,7 @@
 -- Bytes written behind what a lent buffer holds up to a place.
 use Rattle.std.specs.Prelude.{ℕ, ◌+◌, ◌≤◌, ◌≡◌, List, length}
 use Rattle.laws.specs.Put.{Put}
-use Rattle.text.specs.declared.out.Out.{Out}
+use Rattle.text.specs.declared.write.Out.{Out}
 
 -- there is room for so many bytes more
 abbrev pub Room : Out → ℕ → Type 0

@@ -8,12 +8,12 @@ use native.Mathlib.Omega.{arith}
 use borrow.Author.Tests.{ltb-false, eqb-true, eq-eqb, ne_eqb, not-false}
 use lib.Dec.{ltb, eqb}
 use lib.ListN.{length, take}
+use Rattle.std.proofs.Common.{Ok, Err}
 use Rattle.laws.specs.Bytes.{bytes}
 use Rattle.laws.specs.Put.{Put}
 use Rattle.laws.proofs.Choice.{cond_case, clash}
 use Rattle.laws.proofs.Put.{over_nothing, over_front}
 use Rattle.writer.specs.Sendir.{Outcome}
-use Rattle.composer.specs.declared.Composed.TheVariants.{Refused, Line}
 use Rattle.composer.specs.Compose.{refusal_of, composing, Composes}
 use Rattle.composer.proofs.Faults.{no_fault, neither}
 
@@ -25,16 +25,16 @@ neither_refused fault room e =
     (both.0, ltb-false room 4096 (no_fault (ltb room 4096) 101 0 (omega arith) both.1).0)
 
 module _ (text : List ℕ) {before : List ℕ} {fault found number : ℕ} (f : found ≡ fault) (e : number ≡ refusal_of found (length before)) where
-  pub nothing_composed : (number ≡ 0 → ⊥) → Composes (composing (length before) fault text) before (Refused number) before
+  pub nothing_composed : (number ≡ 0 → ⊥) → Composes (composing (length before) fault text) before (Err number) before
   unfolding composing
   nothing_composed h = record { answer = rw (← f, ← e, ne_eqb number 0 h); laid = rw (← f, ← e, ne_eqb number 0 h) (sym (over_nothing before 0)) }
 
   pub composed : {after : List ℕ} {next : ℕ} → number ≡ 0 → Put before 0 (text ++ bytes "\r") after next
-      → Composes (composing (length before) fault text) before (Line next) after
+      → Composes (composing (length before) fault text) before (Ok next) after
   unfolding composing
   composed z p =
       record {
-        answer = ap Line (p.place ∙ zero-add (length (text ++ bytes "\r"))) ∙ rw (← f, ← e, eq-eqb number 0 z);
+        answer = ap Ok (p.place ∙ zero-add (length (text ++ bytes "\r"))) ∙ rw (← f, ← e, eq-eqb number 0 z);
         laid = rw (← f, ← e, eq-eqb number 0 z) p.laid;
       }
 
@@ -45,10 +45,10 @@ pub record LineComposed (fault : ℕ) (text before after : List ℕ) (n : ℕ) :
   pub written : take n after ≡ text ++ (13 ∷ [])
 
 pub line_composed : (fault : ℕ) (text : List ℕ) {before after : List ℕ} {n : ℕ}
-    → Composes (composing (length before) fault text) before (Line n) after → LineComposed fault text before after n
+    → Composes (composing (length before) fault text) before (Ok n) after → LineComposed fault text before after n
 unfolding composing
 line_composed fault text {before} {after} {n} =
-    let P : Outcome → Type 0 = λ o. Composes o before (Line n) after → LineComposed fault text before after n in
+    let P : Outcome → Type 0 = λ o. Composes o before (Ok n) after → LineComposed fault text before after n in
     let whole = text ++ (13 ∷ []) in
     let number = refusal_of fault (length before) in
     cond_case P (not (eqb number 0)) _ _ (λ _ w. let e = w.answer in clash (cc)) λ f w.

@@ -8,7 +8,6 @@ ghost use Rattle.steps.specs.Step.{Makes, command_step, send_step};
 
 use crate::answers::{fails, says};
 use code::Code;
-use command::read::CommandRead;
 use connector::{Answer, Connector, Owner, Run, Sending, Stepped};
 use pace::Pace;
 use reply::Reply;
@@ -141,7 +140,7 @@ pub fn send(
     }
     let mut counts = [0u16; Code::MOST_COUNTS];
     match command::read::command_at(text, at, &mut counts) {
-        CommandRead::Fault(number) => fails(number, place),
-        CommandRead::Sent(f, count) => commanded(c, kept, connection, place, f, &counts, count),
+        Err(number) => fails(number, place),
+        Ok((f, count)) => commanded(c, kept, connection, place, f, &counts, count),
     }
 }

@@ -6,6 +6,7 @@ use mathlib.Core.List.{List, [], ◌∷◌, ◌++◌, append_assoc}
 use native.Mathlib.Omega.{arith}
 use borrow.Author.Tests.{lt-ltb, le-ltb, lt-leb, ne_eqb}
 use lib.ListN.{length, drop}
+use Rattle.std.proofs.Common.{Ok}
 use Rattle.laws.specs.Bytes.{bytes}
 use Rattle.laws.specs.Lists.{all}
 use Rattle.laws.proofs.Lists.{stands_at, stands_below, stands_behind}
@@ -28,7 +29,6 @@ use Rattle.request.specs.Name.{word_at}
 use Rattle.request.specs.Address.{part_at, port_at, address_at, address_fault}
 use Rattle.request.specs.Request.{is_printable, addressed, read_request}
 use Rattle.request.specs.Accepted.{ConnectorAt}
-use Rattle.command.specs.declared.fields.FieldsRead.TheVariants.{Good}
 use Rattle.command.specs.Fields.{capped, fields_at, FieldsWithin}
 use Rattle.writer.specs.Sendir.{sendir_head}
 use Rattle.writer.proofs.Limits.{small}
@@ -54,7 +54,7 @@ capped_same n h = rw (le-ltb 20 n h)
 
 pub record FieldsBack (s : List ℕ) (at : ℕ) (f : Fields) (code : List ℕ) : Type 0 where
   pub end : ℕ
-  pub fields : fields_at s at ≡ Good f end
+  pub fields : fields_at s at ≡ Ok (f, end)
   pub behind : drop end s ≡ code
 
 fields_back : {f : Fields} (s : List ℕ) (at : ℕ) (code : List ℕ) → FieldsWithin f → drop at s ≡ listed (fields_in f) code → FieldsBack s at f code

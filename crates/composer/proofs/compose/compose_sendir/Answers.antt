@@ -12,18 +12,18 @@ pub put_word-requires : goal.put_word-requires
 put_word-requires c =
     let none = neither_refused _ _ (sym c.refusal-number.ensures ∙ c.if-number-ne0.false) in
     let w = sendir_written (sym c.sendir_fault.ensures ∙ none.0) none.1 c.write_sendir.ensures in
-    cr_fits w c.in-Line.is none.1
+    cr_fits w c.in_ok-size.was none.1
 
-pub returns-in-Refused : goal.returns-in-Refused
-returns-in-Refused c =
+pub returns-in_err-size : goal.returns-in_err-size
+returns-in_err-size c =
     let none = neither_refused _ _ (sym c.refusal-number.ensures ∙ c.if-number-ne0.false) in
     let w = sendir_written (sym c.sendir_fault.ensures ∙ none.0) none.1 c.write_sendir.ensures in
-    clash (cc (w.answer, c.in-Refused.is))
+    clash (cc (w.answer, c.in_err-size.was))
 
-pub returns-in-Line : goal.returns-in-Line
-returns-in-Line c =
+pub returns : goal.returns
+returns c =
     let fault = c.sendir_fault.ensures in
     let none = neither_refused _ _ (sym c.refusal-number.ensures ∙ c.if-number-ne0.false) in
     let w = sendir_written (sym fault ∙ none.0) none.1 c.write_sendir.ensures in
     composed _ fault c.refusal-number.ensures c.if-number-ne0.false
-    (then (written_put w c.in-Line.is none.1) c.put_word.ensures)
+    (then (written_put w c.in_ok-size.was none.1) c.put_word.ensures)

@@ -6,7 +6,7 @@ ghost use Rattle.laws.specs.Put.{Put};
 ghost use Rattle.laws.specs.Bytes.{bytes};
 ghost use Rattle.words.specs.Decimal.{decimal, three_digits};
 ghost use Rattle.request.specs.Mode.{mode_word};
-ghost use Rattle.text.specs.Write.{Room, Wrote};
+ghost use Rattle.text.specs.Write.{Room, Appended};
 ghost use Rattle.reply.specs.Reply.{address_text, fixed_text, reply_text};
 
 use request::mode::Mode;
@@ -61,7 +61,7 @@ impl Reply {
 // A word, and then m:p.
 pub fn put_address(out: &mut Out<'_>, w: &[u8], place: Place)
     requires { Room out.old (length w.now + 41) }
-    ensures wrote { Wrote out.old out.new (address_text w.now place) }
+    ensures wrote { Appended out.old out.new (address_text w.now place) }
     ensures within { out.new.at ≤ out.old.at + (length w.now + 41) }
 {
     out.word(w);
@@ -73,7 +73,7 @@ pub fn put_address(out: &mut Out<'_>, w: &[u8], place: Place)
 // A comma, a number and the CR.
 pub fn put_last(out: &mut Out<'_>, n: u64)
     requires { Room out.old 22 }
-    ensures { Wrote out.old out.new (bytes "," ++ decimal n ++ bytes "\r") }
+    ensures { Appended out.old out.new (bytes "," ++ decimal n ++ bytes "\r") }
 {
     out.byte(b',');
     out.number(n);
@@ -83,7 +83,7 @@ pub fn put_last(out: &mut Out<'_>, n: u64)
 // Two numbers, each behind a comma, and the CR.
 pub fn put_two(out: &mut Out<'_>, n: u64, last: u64)
     requires { Room out.old 43 }
-    ensures { Wrote out.old out.new (bytes "," ++ (decimal n ++ bytes "," ++ decimal last) ++ bytes "\r") }
+    ensures { Appended out.old out.new (bytes "," ++ (decimal n ++ bytes "," ++ decimal last) ++ bytes "\r") }
 {
     out.byte(b',');
     out.number(n);
@@ -95,7 +95,7 @@ pub fn put_two(out: &mut Out<'_>, n: u64, last: u64)
 // A comma, three digits and the CR.
 fn put_error_number(out: &mut Out<'_>, n: u64)
     requires { Room out.old 5 }
-    ensures { Wrote out.old out.new (bytes "," ++ three_digits n ++ bytes "\r") }
+    ensures { Appended out.old out.new (bytes "," ++ three_digits n ++ bytes "\r") }
 {
     out.byte(b',');
     out.byte(b'0' + (n / 100 % 10) as u8);
@@ -106,7 +106,7 @@ fn put_error_number(out: &mut Out<'_>, n: u64)
 
 pub fn put_mode(out: &mut Out<'_>, mode: Mode)
     requires { Room out.old 14 }
-    ensures { Wrote out.old out.new (bytes "," ++ mode_word mode ++ bytes "\r") }
+    ensures { Appended out.old out.new (bytes "," ++ mode_word mode ++ bytes "\r") }
 {
     match mode {
         Mode::Ir => out.word(b",IR\r"),
@@ -119,7 +119,7 @@ pub fn put_mode(out: &mut Out<'_>, mode: Mode)
 // The whole reply of a request without an address.
 fn put_fixed(out: &mut Out<'_>, fixed: Fixed)
     requires { Room out.old 66 }
-    ensures { Wrote out.old out.new (fixed_text fixed) }
+    ensures { Appended out.old out.new (fixed_text fixed) }
 {
     match fixed {
         Fixed::Devices => out.word(
@@ -132,7 +132,7 @@ fn put_fixed(out: &mut Out<'_>, fixed: Fixed)
 // The bytes of a reply. Any numbers have room.
 fn put(out: &mut Out<'_>, reply: Reply)
     requires { Room out.old 128 }
-    ensures { Wrote out.old out.new (reply_text reply) }
+    ensures { Appended out.old out.new (reply_text reply) }
 {
     match reply {
         Reply::Fixed(fixed) => put_fixed(out, fixed),

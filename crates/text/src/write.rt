@@ -2,7 +2,7 @@
 ghost use Rattle.std.specs.Prelude.{[], ◌∷◌, ◌+◌, ◌≤◌, length};
 ghost use Rattle.laws.specs.Put.{Put};
 ghost use Rattle.words.specs.Decimal.{decimal};
-ghost use Rattle.text.specs.Write.{Room, Wrote};
+ghost use Rattle.text.specs.Write.{Room, Appended};
 
 // A lent buffer, and the place behind what was written. Each method asks for room; bytes behind the place stay as they were.
 #[derive(Drop)]
@@ -14,7 +14,7 @@ pub struct Out<'a> {
 impl<'a> Out<'a> {
     pub fn byte(&mut self, b: u8)
         requires { Room self.old 1 }
-        ensures { Wrote self.old self.new (b ∷ []) }
+        ensures { Appended self.old self.new (b ∷ []) }
     {
         self.buf[self.at] = b;
         self.at += 1;
@@ -23,7 +23,7 @@ impl<'a> Out<'a> {
     // The bytes of a word.
     pub fn word(&mut self, w: &[u8])
         requires { Room self.old (length w.now) }
-        ensures { Wrote self.old self.new w.now }
+        ensures { Appended self.old self.new w.now }
     {
         let end = self.at + w.len();
         self.buf[self.at..end].copy_from_slice(w);
@@ -33,7 +33,7 @@ impl<'a> Out<'a> {
     // A number, without leading zeros, digit by digit.
     fn digits(&mut self, n: u64)
         requires { Room self.old (length (decimal n)) }
-        ensures { Wrote self.old self.new (decimal n) }
+        ensures { Appended self.old self.new (decimal n) }
     {
         if n < 10 {
             return self.byte(b'0' + (n % 10) as u8);
@@ -45,7 +45,7 @@ impl<'a> Out<'a> {
     // A number, without leading zeros. One digit, as most numbers of a reply have, is put without a call.
     pub fn number(&mut self, n: u64)
         requires { Room self.old (length (decimal n)) }
-        ensures { Wrote self.old self.new (decimal n) }
+        ensures { Appended self.old self.new (decimal n) }
     {
         if n < 10 {
             return self.byte(b'0' + (n % 10) as u8);

@@ -1,5 +1,5 @@
 use Rattle.reply.specs.Reply.{reply_text}
-use Rattle.text.proofs.Wrote.{and_then}
+use Rattle.text.proofs.Appended.{and_then}
 use Rattle.reply.proofs.put.Goals as goal
 
 pub returns-in-Fixed : goal.returns-in-Fixed

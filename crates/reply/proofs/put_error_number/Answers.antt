@@ -1,4 +1,4 @@
-use Rattle.text.proofs.Wrote.{and_then}
+use Rattle.text.proofs.Appended.{and_then}
 use Rattle.reply.proofs.put_error_number.Goals as goal
 
 pub returns : goal.returns

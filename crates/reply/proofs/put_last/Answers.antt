@@ -1,6 +1,6 @@
 use native.Mathlib.Omega.{arith}
 use Rattle.text.proofs.Decimals.{decimal_most}
-use Rattle.text.proofs.Wrote.{and_then}
+use Rattle.text.proofs.Appended.{and_then}
 use Rattle.reply.proofs.put_last.Goals as goal
 
 pub number-requires : goal.number-requires

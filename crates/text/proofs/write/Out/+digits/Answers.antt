@@ -2,7 +2,7 @@ use lib.ListN.{length}
 use mathlib.Core.Path.{ap}
 use native.Mathlib.Omega.{arith}
 use Rattle.text.proofs.Decimals.{decimal_small, decimal_step, decimal_longer}
-use Rattle.text.proofs.Wrote.{and_then}
+use Rattle.text.proofs.Appended.{and_then}
 use Rattle.text.proofs.write.Out.+digits.Goals as goal
 
 pub byte-requires : goal.byte-requires

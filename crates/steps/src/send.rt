@@ -8,7 +8,7 @@ ghost use Rattle.steps.specs.Step.{Makes, command_step, send_step};
 
 use crate::answers::{fails, says};
 use code::Code;
-use connector::{Answer, Connector, Owner, Run, Sending, Stepped};
+use connector::{Answer, Connector, Owner, Run, Stepped};
 use pace::Pace;
 use reply::Reply;
 use request::Place;
@@ -49,27 +49,22 @@ fn verdict_of(
     requires { (length kept.now ≡ most_counts) × (count ≤ most_pairs) }
     ensures { result ≡ verdict_of c kept.now connection f (pairs_of (counts_in counts.now count)) }
 {
-    let sending = c.sending;
-    match sending {
-        Sending::Idle => Verdict::Start,
-        Sending::Running(run) => {
-            let owner = c.owner;
-            if !connector::records::owns(owner, connection) {
-                return Verdict::Busy;
-            }
-            let fields = run.fields;
-            if !same_fields(fields, f) {
-                return Verdict::Start;
-            }
-            if run.count != count {
-                return Verdict::Start;
-            }
-            if store::same(kept, counts, count) {
-                Verdict::Renew
-            } else {
-                Verdict::Start
-            }
-        }
+    let Some(run) = c.sending else {
+        return Verdict::Start;
+    };
+    if !connector::records::owns(c.owner, connection) {
+        return Verdict::Busy;
+    }
+    if !same_fields(run.fields, f) {
+        return Verdict::Start;
+    }
+    if run.count != count {
+        return Verdict::Start;
+    }
+    if store::same(kept, counts, count) {
+        Verdict::Renew
+    } else {
+        Verdict::Start
     }
 }
 
@@ -108,7 +103,7 @@ fn commanded(
             let owner = Owner::Connection(connection);
             Stepped {
                 answer: Answer::Taken,
-                change: Some(connector::records::with_sending(c, owner, Sending::Running(run))),
+                change: Some(connector::records::with_sending(c, owner, Some(run))),
             }
         }
         Verdict::Renew => Stepped {
@@ -134,8 +129,7 @@ pub fn send(
     requires { SoundConnector c × (length kept.old ≡ most_counts) }
     ensures { Makes (send_step c kept.old connection text.now place at) result kept.new }
 {
-    let mode = c.mode;
-    if request::mode::is_silent(mode) {
+    if request::mode::is_silent(c.mode) {
         return fails(13, place);
     }
     let mut counts = [0u16; Code::MOST_COUNTS];

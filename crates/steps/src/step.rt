@@ -7,7 +7,7 @@ ghost use Rattle.connector.specs.Record.{SoundConnector};
 ghost use Rattle.steps.specs.Step.{set_mode, get_mode, get_contact, also_told, stops, lamp_reply, of_lamp, set_lamp, get_lamp, Makes, step_of};
 
 use crate::answers::{fails, says};
-use connector::{Answer, Connector, Owner, Sending, Stepped};
+use connector::{Answer, Connector, Owner, Stepped};
 use lamp::Lamp;
 use reply::Reply;
 use request::mode::Mode;
@@ -80,7 +80,7 @@ fn stop(c: Connector, connection: u8, place: Place) -> Stepped
             reply: Reply::Stopped { place },
             also: also_told(owner, connection),
         },
-        change: Some(connector::records::with_sending(c, Owner::Nobody, Sending::Idle)),
+        change: Some(connector::records::with_sending(c, Owner::Nobody, None)),
     }
 }
 

@@ -16,7 +16,7 @@ use Rattle.steps.proofs.send.verdict_of.Goals.{After-same, Else-not-owns, Else-n
 owned : (c : Else-not-owns) → owns c.args.c.owner c.args.connection ≡ true
 owned c = sym c.owns.ensures ∙ c.if-not-owns.false
 
-fields : (c : Else-not-same_fields) → same_fields c.in-Running.run'.fields c.args.f ≡ true
+fields : (c : Else-not-same_fields) → same_fields c.in-Some.run'.fields c.args.f ≡ true
 fields c = sym c.same_fields.ensures ∙ c.if-not-same_fields.false
 
 many : (c : Start) → length (pairs_of (counts_in c.args.counts.now c.args.count)) ≡ c.args.count
@@ -30,13 +30,13 @@ same c =
     sym (same_kept _ _ _ size) ∙ sym c.same.ensures
 
 pub returns-then-not-owns : goal.returns-then-not-owns
-returns-then-not-owns c = rw (c.in-Running.is, sym c.owns.ensures ∙ c.if-not-owns.true)
+returns-then-not-owns c = rw (c.in-Some.is, sym c.owns.ensures ∙ c.if-not-owns.true)
 
 pub returns-then-not-same_fields : goal.returns-then-not-same_fields
 unfolding same_command
 returns-then-not-same_fields c =
     let owned = owned (goal.at.returns-then-not-same_fields c).Else-not-owns in
-    rw (c.in-Running.is, owned, sym c.same_fields.ensures ∙ c.if-not-same_fields.true)
+    rw (c.in-Some.is, owned, sym c.same_fields.ensures ∙ c.if-not-same_fields.true)
 
 pub returns-then-run-count : goal.returns-then-run-count
 unfolding same_command
@@ -44,10 +44,10 @@ returns-then-run-count c =
     let owned = owned (goal.at.returns-then-run-count c).Else-not-owns in
     let fields = fields (goal.at.returns-then-run-count c).Else-not-same_fields in
     let many = many (goal.at.returns-then-run-count c).Start in
-    rw (c.in-Running.is, owned, fields, many, ne_eqb _ _ c.if-run-count.true)
+    rw (c.in-Some.is, owned, fields, many, ne_eqb _ _ c.if-run-count.true)
 
-pub returns-in-Idle : goal.returns-in-Idle
-returns-in-Idle c = rw c.in-Idle.is
+pub returns-in_default : goal.returns-in_default
+returns-in_default c = rw c.in_default.is
 
 pub returns-then-same : goal.returns-then-same
 unfolding same_command
@@ -57,7 +57,7 @@ returns-then-same c =
     let many = many (goal.at.returns-then-same c).Start in
     let same = same (goal.at.returns-then-same c).After-same in
     let kept = same ∙ c.if-same.true in
-    rw (c.in-Running.is, owned, fields, many, eq-eqb _ _ c.if-run-count.false, kept)
+    rw (c.in-Some.is, owned, fields, many, eq-eqb _ _ c.if-run-count.false, kept)
 
 pub returns-else-same : goal.returns-else-same
 unfolding same_command
@@ -67,4 +67,4 @@ returns-else-same c =
     let many = many (goal.at.returns-else-same c).Start in
     let same = same (goal.at.returns-else-same c).After-same in
     let kept = same ∙ c.if-same.false in
-    rw (c.in-Running.is, owned, fields, many, eq-eqb _ _ c.if-run-count.false, kept)
+    rw (c.in-Some.is, owned, fields, many, eq-eqb _ _ c.if-run-count.false, kept)

@@ -6,8 +6,6 @@ use Rattle.request.specs.declared.mode.Mode.{Mode}
 use Rattle.connector.specs.declared.Owner.{Owner}
 use Rattle.connector.specs.declared.Owner.TheVariants.{Nobody}
 use Rattle.connector.specs.declared.Run.{Run}
-use Rattle.connector.specs.declared.Sending.{Sending}
-use Rattle.connector.specs.declared.Sending.TheVariants.{Idle, Running}
 use Rattle.connector.specs.declared.Connector.{Connector}
 use Rattle.connector.specs.declared.Answer.{Answer}
 use Rattle.connector.specs.declared.Stepped.{Stepped}
@@ -16,9 +14,13 @@ use Rattle.connector.specs.declared.Stepped.{Stepped}
 abbrev pub unread : Option ℕ
 unread = None
 
+-- a connector that transmits nothing
+abbrev pub idle : Option Run
+idle = None
+
 -- in the mode that it wakes in
 abbrev pub fresh_connector : Mode → Connector
-fresh_connector mode = record { owner = Nobody; mode = mode; contact = unread; sending = Idle; lamp = dark }
+fresh_connector mode = record { owner = Nobody; mode = mode; contact = unread; sending = idle; lamp = dark }
 
 -- ---- what every connector has that a fresh hub and the calls gave
 
@@ -31,9 +33,9 @@ pub record SoundRun (r : Run) : Type 0 where
   pub few : r.count ≤ 260
 
 -- an idle connector owns nobody, so that one meaning has one record
-abbrev pub SoundSending : Sending → Owner → Type 0
-SoundSending Idle owner = owner ≡ Nobody
-SoundSending (Running r) owner = SoundRun r
+abbrev pub SoundSending : Option Run → Owner → Type 0
+SoundSending None owner = owner ≡ Nobody
+SoundSending (Some r) owner = SoundRun r
 
 abbrev pub SoundContact : Option ℕ → Type 0
 SoundContact None = Unit

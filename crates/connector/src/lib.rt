@@ -13,7 +13,7 @@ use words::Fields;
 
 // Who hears of a transmission: a connection, or nobody. It stays an enum of its own, and no Option of a connection: document 01 has
 // "a transmission's owner is an enum, a connection or nobody".
-#[derive(Clone, Copy)]
+#[derive(Clone, Copy, PartialEq, Eq)]
 pub enum Owner {
     Nobody,
     Connection(u8),
@@ -28,18 +28,13 @@ pub struct Run {
 }
 
 #[derive(Clone, Copy)]
-pub enum Sending {
-    Idle,
-    Running(Run),
-}
-
-#[derive(Clone, Copy)]
 pub struct Connector {
     pub owner: Owner,
     pub mode: Mode,
     // The contact's last reading; None where it is unread, that is without one since the hub or the mode began.
     pub contact: Option<u8>,
-    pub sending: Sending,
+    // What it transmits; None where it is idle.
+    pub sending: Option<Run>,
     pub lamp: Lamp,
 }
 
@@ -51,7 +46,7 @@ impl Connector {
             owner: Owner::Nobody,
             mode,
             contact: None,
-            sending: Sending::Idle,
+            sending: None,
             lamp: Lamp::dark(),
         }
     }

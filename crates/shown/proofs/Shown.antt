@@ -8,6 +8,7 @@ use native.Mathlib.Omega.{arith}
 use lib.Dec.{eqb}
 use lib.ListN.{length, take}
 use borrow.Author.Tests.{eq-eqb, eqb-true}
+use Rattle.std.proofs.Common as std
 use Rattle.laws.specs.Checks.{holds, is_some}
 use Rattle.laws.proofs.Choice.{by_test, not_both, cond_map}
 use Rattle.words.specs.declared.Pair.{Pair}
@@ -34,9 +35,8 @@ use Rattle.waveform.proofs.Paced.{pace_started, pace_renewed, started_runs, rene
 use Rattle.waveform.proofs.Carried.{carrier_paced}
 use Rattle.connector.specs.declared.Owner.TheVariants.{Nobody, Connection}
 use Rattle.connector.specs.declared.Run.{Run}
-use Rattle.connector.specs.declared.Sending.TheVariants.{Idle, Running}
 use Rattle.connector.specs.declared.Connector.{Connector}
-use Rattle.connector.specs.Record.{unread}
+use Rattle.connector.specs.Record.{unread, idle}
 use Rattle.connector.specs.Change as change
 use Rattle.connector.specs.Change.{is_running, owns, owner_left, same_mode}
 use Rattle.connector.specs.Pass.{passing, passing_run, passing_lamp, after, done_of}
@@ -56,9 +56,9 @@ run_at s t = record { fields = s.fields; count = length s.pairs; pace = pace_at 
 
 -- a connector that has this on air; an idle one has no owner
 abbrev pub shown_as : ℕ → Known → Option Transmission → Connector
-shown_as t x none = record { owner = Nobody; mode = x.mode; contact = x.contact; sending = Idle; lamp = shown_at x.lamp t }
+shown_as t x none = record { owner = Nobody; mode = x.mode; contact = x.contact; sending = idle; lamp = shown_at x.lamp t }
 shown_as t x (some s) =
-    record { owner = x.owner; mode = x.mode; contact = x.contact; sending = Running (run_at s t); lamp = shown_at x.lamp t }
+    record { owner = x.owner; mode = x.mode; contact = x.contact; sending = std.Some (run_at s t); lamp = shown_at x.lamp t }
 
 -- a connector at a moment
 abbrev pub shown : ℕ → Known → Connector
@@ -214,13 +214,13 @@ module _ (t connection : ℕ) (x : Known) (f : Fields) (ps : List Pair) where
   -- a command that starts
   pub started_shown : Accepts f ps
       → shown t (with_sending x (Connection connection) (some (started f ps t)))
-      ≡ change.with_sending (shown t x) (Connection connection) (Running (run_of f ps))
+      ≡ change.with_sending (shown t x) (Connection connection) (std.Some (run_of f ps))
   unfolding run_of started
   started_shown l = rw (started_runs f ps t l.fields l.code l.offset) (go (until t x.sending))
     where
       go : (o : Option Transmission)
           → shown_as t (with_sending x (Connection connection) (some (started f ps t))) (some (started f ps t))
-          ≡ change.with_sending (shown_as t x o) (Connection connection) (Running (run_of f ps))
+          ≡ change.with_sending (shown_as t x o) (Connection connection) (std.Some (run_of f ps))
       go none = rw (pace_started f ps t)
       go (some s) = rw (pace_started f ps t)
 

@@ -19,7 +19,6 @@ use Rattle.reply.specs.declared.Reply.{Reply}
 use Rattle.reply.specs.declared.Reply.TheVariants as reply
 use Rattle.connector.specs.declared.Owner.{Owner}
 use Rattle.connector.specs.declared.Owner.TheVariants.{Nobody, Connection}
-use Rattle.connector.specs.declared.Sending.TheVariants.{Running}
 use Rattle.connector.specs.declared.Connector.{Connector}
 use Rattle.connector.specs.declared.Answer.TheVariants as answer
 use Rattle.connector.specs.declared.Stepped.{Stepped}
@@ -103,7 +102,7 @@ get_lamp c place more = of_lamp c place more (says (lamp_reply place c.lamp))
 abbrev pub by_verdict : Connector → List ℕ → ℕ → Place → Fields → List Pair → Verdict → Made
 by_verdict c kept connection place f ps verdict.Start =
     record {
-      stepped = stepping answer.Taken (Some (with_sending c (Connection connection) (Running (run_of f ps))));
+      stepped = stepping answer.Taken (Some (with_sending c (Connection connection) (Some (run_of f ps))));
       kept = stored_in kept 0 (counts_of ps);
     }
 by_verdict c kept connection place f ps verdict.Renew = keeping (stepping answer.Taken (Some (renewed c))) kept

@@ -2,7 +2,6 @@
 use crate::item;
 use command::given::{Command, Given};
 use composer::Wish;
-use request::mode::ModeRead;
 use request::{Fixed, Place};
 use writer::Form;
 
@@ -27,9 +26,7 @@ fn set_mode(s: &[u8], place: Place) -> Option<Asked> {
     }
     match request::mode::mode_at(word, 0) {
         // a word may have a comma, which ends the mode of a request
-        ModeRead::Known(mode, end) if end == word.len() => Some(Asked::Wish(Wish::SetMode(
-            place, mode,
-        ))),
+        Some((mode, end)) if end == word.len() => Some(Asked::Wish(Wish::SetMode(place, mode))),
         _ => Some(Asked::NoMode(place)),
     }
 }

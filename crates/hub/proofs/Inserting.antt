@@ -27,7 +27,8 @@ inserted_length x (y ∷ l) =
     (λ _. refl) (λ _. ap suc (inserted_length x l))
 
 -- ---- the place of one more, where the first that is later stands, or behind all
-place_is : {A : Type 0} (p : A → Bool) (l : List A) → unwrap_or (position p l) (length l) ≡ position_or_len p l
+-- where the first that passes stands, or behind all
+pub place_is : {A : Type 0} (p : A → Bool) (l : List A) → unwrap_or (position p l) (length l) ≡ position_or_len p l
 place_is p l =
     by_test (ltb (position_or_len p l) (length l)) (λ e. rw e)
     (λ e. rw e (omega (arith, ltb-false _ _ e, prefix_len-le-length (λ x. not (p x)) l)))

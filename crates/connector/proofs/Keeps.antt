@@ -19,8 +19,6 @@ use Rattle.request.specs.Mode.{is_sensor}
 use Rattle.connector.specs.declared.Owner.{Owner}
 use Rattle.connector.specs.declared.Owner.TheVariants.{Nobody}
 use Rattle.connector.specs.declared.Run.{Run}
-use Rattle.connector.specs.declared.Sending.{Sending}
-use Rattle.connector.specs.declared.Sending.TheVariants.{Idle, Running}
 use Rattle.connector.specs.declared.Connector.{Connector}
 use Rattle.connector.specs.declared.Stepped.{Stepped}
 use Rattle.connector.specs.declared.pass.Passing.{Passing}
@@ -51,12 +49,12 @@ pub stopped_connector : {c : Connector} → SoundConnector c → SoundConnector 
 stopped_connector k = record { sends = refl; reads = k.reads; lights = k.lights }
 
 -- what is sent is sound whoever is left to own it
-disowned_sends : (sending : Sending) (owner : Owner) (connection : ℕ) → SoundSending sending owner
+disowned_sends : (sending : Option Run) (owner : Owner) (connection : ℕ) → SoundSending sending owner
     → SoundSending sending (owner_left owner connection)
 unfolding owner_left
-disowned_sends Idle owner connection s =
+disowned_sends None owner connection s =
     cond_case (λ (o : Owner). o ≡ Nobody) (owns owner connection) Nobody owner (λ _. refl) (λ _. s)
-disowned_sends (Running r) owner connection s = s
+disowned_sends (Some r) owner connection s = s
 
 -- without an owner who has left
 pub disowned_connector : (c : Connector) (connection : ℕ) → SoundConnector c → SoundConnector (disowned c connection)
@@ -79,9 +77,9 @@ paced_run_law s paced =
 pub renewed_connector : (c : Connector) → SoundConnector c → SoundConnector (renewed c)
 renewed_connector c k = go c.sending k.sends
   where
-    go : (sending : Sending) → SoundSending sending c.owner → SoundConnector (renewed_sending c sending)
-    go Idle s = k
-    go (Running r) s =
+    go : (sending : Option Run) → SoundSending sending c.owner → SoundConnector (renewed_sending c sending)
+    go None s = k
+    go (Some r) s =
         record {
           sends = paced_run_law s (renewed_sound s.paced s.repeat_low s.repeat_high);
           reads = k.reads;
@@ -105,9 +103,9 @@ pub passed_connector : (c : Connector) (place : Place) (n : ℕ) → SoundConnec
 unfolding passed
 passed_connector c place n k = go c.sending k.sends
   where
-    go : (sending : Sending) → SoundSending sending c.owner → SoundConnector (after c (passing_sending c place n sending))
-    go Idle s = lit_connector c n k
-    go (Running r) s =
+    go : (sending : Option Run) → SoundSending sending c.owner → SoundConnector (after c (passing_sending c place n sending))
+    go None s = lit_connector c n k
+    go (Some r) s =
         cond_case (λ (x : Passed). SoundConnector (after c (passing_run c place r x)))
         (leb (end_of r.pace) (r.pace.at.0 + n * r.fields.freq)) _ _
         (λ _. stopped_connector k)

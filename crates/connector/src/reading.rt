@@ -18,8 +18,7 @@ fn refuses(number: u64) -> Stepped
 pub fn reading(c: Connector, value: u64) -> Stepped
     ensures { result ≡ reading_step c value }
 {
-    let mode = c.mode;
-    if !request::mode::is_sensor(mode) {
+    if !request::mode::is_sensor(c.mode) {
         return refuses(104);
     }
     if 1 < value {

@@ -11,7 +11,7 @@ ghost use Rattle.hub.specs.Wait.{wait_call};
 
 pub use crate::completions::Completions;
 use code::Code;
-pub use connector::{Answer, Completion, Connector, Contact, Owner, Run, Sending};
+pub use connector::{Answer, Completion, Connector, Owner, Run};
 use pace::Micros;
 use reply::Reply;
 use request::Place;

@@ -1,6 +1,6 @@
 -- What is asked of one connector: its answer, its change, and the counts that it keeps. In document 01's order: "sendir 013, 004, 005, 006,
 -- 007, code faults, 007 for an offset beyond the code, busyIR; set_IR .. 029; stopir .. 013; getstate .. 018, 028"; of a lamp 023, 017.
-use Rattle.std.specs.Prelude.{ℕ, ◌≡◌, Bool, cond, not, Some, None, List, [], ◌∷◌}
+use Rattle.std.specs.Prelude.{ℕ, ◌≡◌, Bool, cond, not, Option, Some, None, List, [], ◌∷◌}
 use Rattle.laws.specs.Checks.{◌⇒◌, first}
 use Rattle.laws.specs.Put.{stored_in}
 use Rattle.words.specs.declared.Pair.{Pair}
@@ -19,9 +19,6 @@ use Rattle.reply.specs.declared.Reply.{Reply}
 use Rattle.reply.specs.declared.Reply.TheVariants as reply
 use Rattle.connector.specs.declared.Owner.{Owner}
 use Rattle.connector.specs.declared.Owner.TheVariants.{Nobody, Connection}
-use Rattle.connector.specs.declared.Contact.{Contact}
-use Rattle.connector.specs.declared.Contact.TheVariants.{Unread, Read}
-use Rattle.connector.specs.declared.Sending.TheVariants.{Running}
 use Rattle.connector.specs.declared.Connector.{Connector}
 use Rattle.connector.specs.declared.Answer.TheVariants as answer
 use Rattle.connector.specs.declared.Stepped.{Stepped}
@@ -63,9 +60,9 @@ abbrev pub get_mode : Connector → Place → Stepped
 get_mode c place = says (reply.Mode place c.mode)
 
 -- 018 "getstate on a connector not in SENSOR", 028 "getstate on an unread contact"
-abbrev pub contact_says : Place → Contact → Stepped
-contact_says place Unread = fails 28 place
-contact_says place (Read value) = says (reply.State place value)
+abbrev pub contact_says : Place → Option ℕ → Stepped
+contact_says place None = fails 28 place
+contact_says place (Some value) = says (reply.State place value)
 
 unfoldable pub get_contact : Connector → Place → Stepped
 get_contact c place = cond (not (is_sensor c.mode)) (fails 18 place) (contact_says place c.contact)
@@ -105,7 +102,7 @@ get_lamp c place more = of_lamp c place more (says (lamp_reply place c.lamp))
 abbrev pub by_verdict : Connector → List ℕ → ℕ → Place → Fields → List Pair → Verdict → Made
 by_verdict c kept connection place f ps verdict.Start =
     record {
-      stepped = stepping answer.Taken (Some (with_sending c (Connection connection) (Running (run_of f ps))));
+      stepped = stepping answer.Taken (Some (with_sending c (Connection connection) (Some (run_of f ps))));
       kept = stored_in kept 0 (counts_of ps);
     }
 by_verdict c kept connection place f ps verdict.Renew = keeping (stepping answer.Taken (Some (renewed c))) kept

@@ -7,6 +7,7 @@ use connector::{Owner, Stepped};
 use reply::Reply;
 use request::Place;
 
+// `says` and `fails` stay beside those of steps::answers, which make a Stepped: a trait for both records would be longer than the two.
 // A reply for the asker alone, and nothing changes.
 pub fn says(reply: Reply) -> Decided
     ensures { result ≡ says reply }

@@ -203,7 +203,8 @@ pub fn put_completion(out: &mut [u8], at: usize, completion: Completion) -> usiz
     put_completed(out, at, owner, moment, &line[..size])
 }
 
-// The completions of a wait.
+// The completions of a wait. The loop stays beside script::output's, which differs in what puts one, in the text and in the room: a function
+// over both would have to promise of its closure what `put_completion` promises, which is longer than the loop.
 pub fn put_completions(out: &mut [u8], at: usize, completions: Completions) -> usize
     requires { at + 408 ≤ length out.old }
     ensures { Put out.old at (wait_frames completions) out.new result }

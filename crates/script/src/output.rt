@@ -31,7 +31,7 @@ fn put_line(out: &mut [u8], at: usize, who: Owner, line: &[u8]) -> usize
     put_word(out, c, b"\n")
 }
 
-// A reply for somebody, line by line.
+// A reply for somebody, line by line. The loop stays one from CR to CR: `split` would also give what stands behind the last CR, which is no line.
 pub fn put_lines(out: &mut [u8], at: usize, who: Owner, text: &[u8]) -> usize
     requires { at + length (printed_reply (who_text who) text.now) ≤ length out.old }
     ensures { Put out.old at (printed_reply (who_text who) text.now) out.new result }
@@ -78,7 +78,7 @@ fn put_completion(out: &mut [u8], at: usize, completion: Completion) -> usize
     put_lines(out, c, owner, &text[..size])
 }
 
-// The completions of a wait.
+// The completions of a wait. The loop stays beside that of the crate output, where the reason stands.
 pub fn put_completions(out: &mut [u8], at: usize, completions: Completions) -> usize
     requires { at + 768 ≤ length out.old }
     ensures { Put out.old at (printed_completions (take completions.count completions.items)) out.new result }

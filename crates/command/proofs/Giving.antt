@@ -1,12 +1,13 @@
 -- Laws of the fields that are given, of the loops over counts, and of the pairs that they are.
 use Prim.Native.Nat.{ℕ, ◌*◌, ◌/◌, ◌%◌, ◌≤◌}
 use mathlib.Core.Path.{◌≡◌, refl, sym, ap, ◌∙◌}
-use mathlib.Core.Bool.{true, not}
+use mathlib.Core.Bool.{Bool, true, not}
 use mathlib.Core.List.{List, [], ◌∷◌}
 use native.Mathlib.Omega.{arith}
 use borrow.Author.Tests.{ltb-false, eqb-true, eqb-false, not-true, not-false}
 use lib.Dec.{ltb, eqb}
 use Rattle.std.proofs.Common.{Ok}
+use Rattle.std.specs.List.{list_all}
 use lib.ListN.{length}
 use lib.Seq.{sets}
 use Rattle.laws.specs.Lists.{all}
@@ -69,6 +70,11 @@ counts_in_law freq given e =
       even = eqb-true (length given % 2) 0 (not-false (eqb (length given % 2) 0) c.0);
       allowed = c.1;
     }
+
+-- a test of every element, as std says it
+pub list_all_law : {A : Type 0} (p : A → Bool) (l : List A) → list_all p l ≡ all p l
+list_all_law p [] = refl
+list_all_law p (b ∷ l) = rw (list_all_law p l)
 
 pub each_fits : {freq : ℕ} {given : List ℕ} → CountsIn freq given → EachFits given
 each_fits {freq} {given} c i h = let l = legal_is (all_at (legal freq) given i 0 c.allowed h) in omega (arith, l.high)

@@ -15,21 +15,13 @@ pub fn capped(repeat: u64) -> u64
 pub fn fields_at(s: &[u8], at: usize) -> Result<(Fields, usize), u64>
     ensures { result ≡ fields_at s.now at }
 {
-    let Some((id, a)) = text::field::field_within(s, at, 0, Code::MOST_ID) else {
-        return Err(4);
-    };
+    let (id, a) = text::field::field_within(s, at, 0, Code::MOST_ID).ok_or(4u64)?;
     let b = text::field::after_comma(s, a);
-    let Some((freq, c)) = text::field::field_within(s, b, Code::LEAST_FREQ, Code::MOST_FREQ) else {
-        return Err(5);
-    };
+    let (freq, c) = text::field::field_within(s, b, Code::LEAST_FREQ, Code::MOST_FREQ).ok_or(5u64)?;
     let d = text::field::after_comma(s, c);
-    let Some((repeat, e)) = text::field::field_within(s, d, 1, Code::MOST_REPEAT) else {
-        return Err(6);
-    };
+    let (repeat, e) = text::field::field_within(s, d, 1, Code::MOST_REPEAT).ok_or(6u64)?;
     let f = text::field::after_comma(s, e);
-    let Some((offset, g)) = text::field::field_within(s, f, 1, Code::MOST_OFFSET) else {
-        return Err(7);
-    };
+    let (offset, g) = text::field::field_within(s, f, 1, Code::MOST_OFFSET).ok_or(7u64)?;
     if offset % 2 == 0 {
         return Err(7);
     }

@@ -76,14 +76,7 @@ fn counts_within(freq: u64, given: &[u64]) -> bool
     if count % 2 != 0 {
         return false;
     }
-    let mut i: usize = 0;
-    while i < count {
-        if !code::limits::is_legal(freq, given[i]) {
-            return false;
-        }
-        i += 1;
-    }
-    true
+    given.iter().all(|&n| code::limits::is_legal(freq, n))
 }
 
 // Stores counts in front.
@@ -91,10 +84,8 @@ fn put_counts(given: &[u64], counts: &mut [u16])
     requires { (length given.now ≤ length counts.old) × EachFits given.now }
     ensures { counts.new ≡ sets counts.old 0 given.now }
 {
-    let mut i: usize = 0;
-    while i < given.len() {
+    for i in 0..given.len() {
         counts[i] = given[i] as u16;
-        i += 1;
     }
 }
 

@@ -1,6 +1,6 @@
 -- The line of each request of document 01's table, and what composing gives: "It composes each request of document 01's table, with its CR";
 -- "then 101 for a lent line under 4,096 bytes; nothing written"; "Bytes of a lent buffer after what is written keep their contents."
-use Rattle.std.specs.Prelude.{ℕ, ◌≡◌, not, List, [], ◌∷◌, ◌++◌, ltb, eqb, length, Result}
+use Rattle.std.specs.Prelude.{ℕ, ◌≡◌, not, List, [], ◌∷◌, ◌++◌, ltb, eqb, Result}
 use Rattle.laws.specs.Bytes.{bytes}
 use Rattle.laws.specs.Checks.{◌⇒◌, first}
 use Rattle.laws.specs.Put.{over}
@@ -29,9 +29,13 @@ wish_text (SetLamp a target ramp) =
     address_text (bytes "set_LED_LIGHTING,") a ++ (bytes "," ++ (decimal target ++ bytes "," ++ decimal ramp))
 wish_text (GetLamp a) = address_text (bytes "get_LED_LIGHTING,") a
 
--- the number of a refusal: the fault, "then 101 for a lent line under 4,096 bytes"; 0 where there is neither
+-- "101 for a lent line under 4,096 bytes"
+abbrev pub room_fault : ℕ → ℕ
+room_fault room = first ((ltb room 4096 ⇒ 101) ∷ []) 0
+
+-- the number of a refusal: the fault, then that of too little room; 0 where there is neither
 unfoldable pub refusal_of : ℕ → ℕ → ℕ
-refusal_of fault room = or_else fault (first ((ltb room 4096 ⇒ 101) ∷ []) 0)
+refusal_of fault room = or_else fault (room_fault room)
 
 -- that refusal, or the text and its CR
 unfoldable pub composing : ℕ → ℕ → List ℕ → Outcome

@@ -3,7 +3,8 @@ ghost use Rattle.std.specs.Prelude.{◌≡◌, ◌++◌, ◌≤◌, length};
 ghost use Rattle.laws.specs.Bytes.{bytes};
 ghost use Rattle.laws.specs.Put.{Put};
 ghost use Rattle.request.specs.Name.{fixed_word};
-ghost use Rattle.composer.specs.Compose.{wish_text, refusal_of, wish_outcome, sendir_outcome, Composes};
+ghost use Rattle.composer.specs.Fault.{judged};
+ghost use Rattle.composer.specs.Compose.{wish_text, room_fault, wish_outcome, sendir_outcome, Composes};
 
 use crate::{ROOM, Wish};
 use command::given::Command;
@@ -60,27 +61,21 @@ fn put_wish(line: &mut [u8], wish: Wish) -> usize
     }
 }
 
-// The number of a refusal: the request's fault, then 101 for too little room; 0 where there is neither.
-fn refusal(fault: u64, room: usize) -> u64
-    ensures { result ≡ refusal_of fault room }
+// 101 for too little room.
+fn room_fault(room: usize) -> Result<(), u64>
+    ensures { result ≡ judged (room_fault room) }
 {
-    if fault != 0 {
-        return fault;
-    }
     if room < ROOM {
-        return 101;
+        return Err(101);
     }
-    0
+    Ok(())
 }
 
 // The line of a request: its length with its CR, or the number that the hub would answer it, then 101, and nothing written.
 pub fn compose(line: &mut [u8], wish: Wish) -> Result<usize, u64>
     ensures { Composes (wish_outcome (length line.old) wish) line.old result line.new }
 {
-    let number = refusal(crate::fault::wish_fault(wish), line.len());
-    if number != 0 {
-        return Err(number);
-    }
+    crate::fault::wish_fault(wish).and(room_fault(line.len()))?;
     Ok(put_wish(line, wish))
 }
 
@@ -93,10 +88,7 @@ pub fn compose_sendir(
 ) -> Result<usize, u64>
     ensures { Composes (sendir_outcome (length line.old) form command counts.now) line.old result line.new }
 {
-    let number = refusal(crate::fault::sendir_fault(command, counts), line.len());
-    if number != 0 {
-        return Err(number);
-    }
+    crate::fault::sendir_fault(command, counts).and(room_fault(line.len()))?;
     let size = writer::sendir::write_sendir(line, form, command, counts)?;
     Ok(put_word(line, size, b"\r"))
 }

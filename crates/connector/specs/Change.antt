@@ -13,21 +13,10 @@ use Rattle.connector.specs.Record.{unread, idle}
 
 abbrev pub same_mode : Mode → Mode → Bool
 same_mode Ir Ir = true
-same_mode Ir Sensor = false
-same_mode Ir IrBlaster = false
-same_mode Ir LedLighting = false
-same_mode Sensor Ir = false
 same_mode Sensor Sensor = true
-same_mode Sensor IrBlaster = false
-same_mode Sensor LedLighting = false
-same_mode IrBlaster Ir = false
-same_mode IrBlaster Sensor = false
 same_mode IrBlaster IrBlaster = true
-same_mode IrBlaster LedLighting = false
-same_mode LedLighting Ir = false
-same_mode LedLighting Sensor = false
-same_mode LedLighting IrBlaster = false
 same_mode LedLighting LedLighting = true
+same_mode _ _ = false
 
 -- "a change of mode makes the contact unread, the present mode again changes nothing"; "A connector entering this mode is at 0 with target 0"
 unfoldable pub with_mode : Connector → Mode → Connector

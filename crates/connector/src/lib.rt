@@ -13,7 +13,7 @@ use words::Fields;
 
 // Who hears of a transmission: a connection, or nobody. It stays an enum of its own, and no Option of a connection: document 01 has
 // "a transmission's owner is an enum, a connection or nobody".
-#[derive(Clone, Copy)]
+#[derive(Clone, Copy, PartialEq, Eq)]
 pub enum Owner {
     Nobody,
     Connection(u8),

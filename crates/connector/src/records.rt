@@ -1,48 +1,17 @@
 // The records that a connector may become.
 ghost use Rattle.std.specs.Prelude.{◌≡◌};
 ghost use Rattle.connector.specs.Record.{SoundSending};
-ghost use Rattle.connector.specs.Change.{same_mode, with_mode, with_reading, with_lamp, with_sending, is_running, renewed, owns};
+ghost use Rattle.connector.specs.Change.{with_mode, with_reading, with_lamp, with_sending, is_running, renewed, owns};
 
 use crate::{Connector, Owner, Run};
 use lamp::Lamp;
 use request::mode::Mode;
 
-fn same_mode(a: Mode, b: Mode) -> bool
-    ensures { result ≡ same_mode a b }
-{
-    match a {
-        Mode::Ir => match b {
-            Mode::Ir => true,
-            Mode::Sensor => false,
-            Mode::IrBlaster => false,
-            Mode::LedLighting => false,
-        },
-        Mode::Sensor => match b {
-            Mode::Ir => false,
-            Mode::Sensor => true,
-            Mode::IrBlaster => false,
-            Mode::LedLighting => false,
-        },
-        Mode::IrBlaster => match b {
-            Mode::Ir => false,
-            Mode::Sensor => false,
-            Mode::IrBlaster => true,
-            Mode::LedLighting => false,
-        },
-        Mode::LedLighting => match b {
-            Mode::Ir => false,
-            Mode::Sensor => false,
-            Mode::IrBlaster => false,
-            Mode::LedLighting => true,
-        },
-    }
-}
-
 // A change of mode makes the contact unread and leaves no lamp but a dark one; the present mode again changes nothing.
 pub fn with_mode(c: Connector, mode: Mode) -> Connector
     ensures { result ≡ with_mode c mode }
 {
-    if same_mode(c.mode, mode) {
+    if c.mode == mode {
         return c;
     }
     Connector {
@@ -101,8 +70,5 @@ pub fn renewed(c: Connector) -> Connector
 pub fn owns(owner: Owner, connection: u8) -> bool
     ensures { result ≡ owns owner connection }
 {
-    match owner {
-        Owner::Nobody => false,
-        Owner::Connection(number) => number == connection,
-    }
+    owner == Owner::Connection(connection)
 }

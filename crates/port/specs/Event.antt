@@ -37,15 +37,15 @@ wait_of s connection n =
     let x = wait_call s n in
     outcome x.server (answer_frames connection x.answer ++ wait_frames x.completions)
 
-unfoldable pub event_of : Server → List ℕ → Event → Outcome
-event_of s store event.Nothing = outcome s []
-event_of s store (event.Closed connection) = closed_of s connection
-event_of s store (event.Reading port value) = reading_of s port value
-event_of s store (event.Wait connection n) = wait_of s connection n.0
-event_of s store event.Carriers = outcome s (carriers_frame (carriers_of s.hub store))
-event_of s store event.Levels = outcome s (levels_frame (levels_of s.hub))
-event_of s store event.Due = outcome s (due_frames (due_of s))
-event_of s store (event.Refused connection number) = outcome s (refusal_frame connection number)
+unfoldable pub event_of : Server → List ℕ → Option Event → Outcome
+event_of s store None = outcome s []
+event_of s store (Some (event.Closed connection)) = closed_of s connection
+event_of s store (Some (event.Reading port value)) = reading_of s port value
+event_of s store (Some (event.Wait connection n)) = wait_of s connection n.0
+event_of s store (Some event.Carriers) = outcome s (carriers_frame (carriers_of s.hub store))
+event_of s store (Some event.Levels) = outcome s (levels_frame (levels_of s.hub))
+event_of s store (Some event.Due) = outcome s (due_frames (due_of s))
+event_of s store (Some (event.Refused connection number)) = outcome s (refusal_frame connection number)
 
 -- the server, and the frames laid from a place on
 pub record Does (x : Outcome) (before : List ℕ) (at : ℕ) (r : Done) (after : List ℕ) : Type 0 where

@@ -72,12 +72,22 @@ fn put_next(server: Server, out: &mut [u8], at: usize) -> usize
     }
 }
 
-pub fn answered(server: Server, store: &Store, event: Event, out: &mut [u8], at: usize) -> Done
+// Where nothing is complete, nothing is answered.
+#[tactic(auto, unfolding(crate::specs::Event::event_of))]
+pub fn answered(
+    server: Server,
+    store: &Store,
+    event: Option<Event>,
+    out: &mut [u8],
+    at: usize,
+) -> Done
     requires { SoundServer server × (at + 512 ≤ length out.old) }
     ensures { Does (event_of server store.now event) out.old at result out.new }
 {
+    let Some(event) = event else {
+        return Done { server, end: at };
+    };
     match event {
-        Event::Nothing => Done { server, end: at },
         Event::Closed(connection) => closed(server, connection, out, at),
         Event::Reading { port, value } => reading(server, port, value, out, at),
         Event::Wait { connection, micros } => waited(server, connection, micros, out, at),

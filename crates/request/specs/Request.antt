@@ -1,7 +1,7 @@
 -- A line of bytes read into one request, or into its first fault that does not depend on the hub's state, in document 01's
 -- order: "015, 001, 017 for the address, 002, 003, then by request: .. set_IR 023, 014, 017;
 -- setstate 023, 017; stopir 017; getstate 017; get_IR 017. getdevices and getversion know only 017."
-use Rattle.std.specs.Prelude.{ℕ, List, [], ◌∷◌, Bool, false, cond, not, length, ltb, leb, eqb, Option, Some, None}
+use Rattle.std.specs.Prelude.{ℕ, List, [], ◌∷◌, Bool, false, cond, not, Option, Some, None, Result, Ok, Err, length, ltb, leb, eqb}
 use Rattle.laws.specs.Checks.{◌⇒◌, first}
 use Rattle.laws.specs.Lists.{all}
 use Rattle.text.specs.Field.{after_comma, field_within}
@@ -14,12 +14,7 @@ use Rattle.request.specs.declared.name.Name.{Name}
 use Rattle.request.specs.declared.name.Name.TheVariants as name
 use Rattle.request.specs.declared.name.Word.{Word}
 use Rattle.request.specs.declared.name.Word.TheVariants.{Alone, Named}
-use Rattle.request.specs.declared.name.WordRead.{WordRead}
-use Rattle.request.specs.declared.name.WordRead.TheVariants.{Unknown, Known}
-use Rattle.request.specs.declared.address.Address.{Address}
-use Rattle.request.specs.declared.address.Address.TheVariants as address
-use Rattle.request.specs.declared.mode.ModeRead.{ModeRead}
-use Rattle.request.specs.declared.mode.ModeRead.TheVariants as mode
+use Rattle.request.specs.declared.mode.Mode.{Mode}
 use Rattle.request.specs.Place.{nowhere}
 use Rattle.request.specs.Name.{fixed_word, name_of, word_at}
 use Rattle.request.specs.Address.{address_at, address_fault}
@@ -38,9 +33,9 @@ unfoldable pub alone : List ℕ → ℕ → Request → Request
 alone s end request = cond (ltb end (length s)) (fault 17) request
 
 -- set_IR: 023, 014, 017
-abbrev pub mode_read : List ℕ → Place → ModeRead → Request
-mode_read s place mode.Unknown = Fault 23 place
-mode_read s place (mode.Known m end) =
+abbrev pub mode_read : List ℕ → Place → Option (Mode × ℕ) → Request
+mode_read s place None = Fault 23 place
+mode_read s place (Some (m, end)) =
     cond (may_have place.port m) (alone s end (Connector place (SetMode m))) (Fault 14 place)
 
 unfoldable pub set_ir_at : List ℕ → Place → ℕ → Request
@@ -86,10 +81,13 @@ at_address s name.SetLamp place end = set_lamp_at s place (after_comma s end)
 at_address s name.GetLamp place end = Connector place (GetLamp (ltb end (length s)))
 
 -- 017 for the address, 002, 003
-abbrev pub address_read : List ℕ → Name → Address → Request
-address_read s n address.Bad = fault 17
-address_read s n (address.At place end) =
-    cond (eqb (address_fault n place) 0) (at_address s n place end) (fault (address_fault n place))
+abbrev pub fault_read : List ℕ → Name → Place → ℕ → Result Unit ℕ → Request
+fault_read s n place end (Ok u) = at_address s n place end
+fault_read s n place end (Err number) = fault number
+
+abbrev pub address_read : List ℕ → Name → Option (Place × ℕ) → Request
+address_read s n None = fault 17
+address_read s n (Some (place, end)) = fault_read s n place end (address_fault n place)
 
 unfoldable pub addressed : List ℕ → Name → Request
 addressed s n = address_read s n (address_at s (after_comma s (length (name_of n))))
@@ -99,9 +97,9 @@ abbrev pub worded : List ℕ → Word → Request
 worded s (Alone fixed) = alone s (length (fixed_word fixed)) (Fixed fixed)
 worded s (Named n) = addressed s n
 
-abbrev pub asked : List ℕ → WordRead → Request
-asked s Unknown = fault 1
-asked s (Known word) = worded s word
+abbrev pub asked : List ℕ → Option Word → Request
+asked s None = fault 1
+asked s (Some word) = worded s word
 
 -- the request that a line is, for any bytes
 unfoldable pub read_request : List ℕ → Request

@@ -3,7 +3,7 @@ ghost use Rattle.std.specs.Prelude.{◌≡◌, ◌*◌, ◌≤◌, ◌<◌, leng
 ghost use Rattle.code.specs.Limits.{most_pairs, most_counts};
 ghost use Rattle.words.specs.Pairs.{pairs_of, counts_in};
 ghost use Rattle.connector.specs.Record.{SoundConnector};
-ghost use Rattle.steps.specs.Send.{same_fields, verdict_of, run_of};
+ghost use Rattle.steps.specs.Send.{verdict_of, run_of};
 ghost use Rattle.steps.specs.Step.{Makes, command_step, send_step};
 
 use crate::answers::{fails, says};
@@ -20,22 +20,6 @@ pub enum Verdict {
     Start,
     Renew,
     Busy,
-}
-
-// Whether two commands have equal fields.
-fn same_fields(a: Fields, b: Fields) -> bool
-    ensures { result ≡ same_fields a b }
-{
-    if a.id != b.id {
-        return false;
-    }
-    if a.freq != b.freq {
-        return false;
-    }
-    if a.repeat != b.repeat {
-        return false;
-    }
-    a.offset == b.offset
 }
 
 fn verdict_of(
@@ -55,7 +39,7 @@ fn verdict_of(
     if !connector::records::owns(c.owner, connection) {
         return Verdict::Busy;
     }
-    if !same_fields(run.fields, f) {
+    if run.fields != f {
         return Verdict::Start;
     }
     if run.count != count {
@@ -112,7 +96,7 @@ fn commanded(
         },
         Verdict::Busy => says(Reply::Busy {
             place,
-            id: f.id as u64,
+            id: u64::from(f.id),
         }),
     }
 }

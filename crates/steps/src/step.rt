@@ -17,8 +17,7 @@ use request::{Ask, Place};
 fn set_mode(c: Connector, place: Place, mode: Mode) -> Stepped
     ensures { result ≡ set_mode c place mode }
 {
-    let sending = c.sending;
-    if connector::records::is_running(sending) {
+    if connector::records::is_running(c.sending) {
         return fails(29, place);
     }
     Stepped {
@@ -34,16 +33,17 @@ fn set_mode(c: Connector, place: Place, mode: Mode) -> Stepped
 fn get_mode(c: Connector, place: Place) -> Stepped
     ensures { result ≡ get_mode c place }
 {
-    let mode = c.mode;
-    says(Reply::Mode { place, mode })
+    says(Reply::Mode {
+        place,
+        mode: c.mode,
+    })
 }
 
 // getstate: 018 where it is not in SENSOR, 028 where the contact is unread.
 fn get_contact(c: Connector, place: Place) -> Stepped
     ensures { result ≡ get_contact c place }
 {
-    let mode = c.mode;
-    if !request::mode::is_sensor(mode) {
+    if !request::mode::is_sensor(c.mode) {
         return fails(18, place);
     }
     let Some(value) = c.contact else {
@@ -55,7 +55,8 @@ fn get_contact(c: Connector, place: Place) -> Stepped
     })
 }
 
-// Whom a stopir tells besides the asker: the owner, if another connection.
+// Whom a stopir tells besides the asker: the owner, if another connection. It stays beside the connector's `owner_left`, which has the same
+// body: document 01 says the two rules in two places, and one may change without the other (docs/DECISIONS.md).
 fn also_told(owner: Owner, connection: u8) -> Owner
     ensures { result ≡ also_told owner connection }
 {
@@ -70,15 +71,13 @@ fn also_told(owner: Owner, connection: u8) -> Owner
 fn stop(c: Connector, connection: u8, place: Place) -> Stepped
     ensures { result ≡ stops c connection place }
 {
-    let mode = c.mode;
-    if request::mode::is_silent(mode) {
+    if request::mode::is_silent(c.mode) {
         return fails(13, place);
     }
-    let owner = c.owner;
     Stepped {
         answer: Answer::Reply {
             reply: Reply::Stopped { place },
-            also: also_told(owner, connection),
+            also: also_told(c.owner, connection),
         },
         change: Some(connector::records::with_sending(c, Owner::Nobody, None)),
     }
@@ -89,12 +88,10 @@ fn lamp_reply(place: Place, lamp: Lamp) -> Reply
     requires { SoundLamp lamp }
     ensures { result ≡ lamp_reply place lamp }
 {
-    let level = lamp.percent();
-    let target = lamp.target as u64;
     Reply::Lamp {
         place,
-        level,
-        target,
+        level: lamp.percent(),
+        target: u64::from(lamp.target),
     }
 }
 
@@ -102,8 +99,7 @@ fn lamp_reply(place: Place, lamp: Lamp) -> Reply
 fn of_lamp(c: Connector, place: Place, more: bool, otherwise: Stepped) -> Stepped
     ensures { result ≡ of_lamp c place more otherwise }
 {
-    let mode = c.mode;
-    if !request::mode::is_lighting(mode) {
+    if !request::mode::is_lighting(c.mode) {
         return fails(23, place);
     }
     if more {
@@ -117,8 +113,7 @@ fn set_lamp(c: Connector, place: Place, target: u8, ramp: u8, more: bool) -> Ste
     requires { SoundConnector c × (target ≤ 100) × (ramp ≤ 10) }
     ensures { result ≡ set_lamp c place target ramp more }
 {
-    let before = c.lamp;
-    let lamp = before.turned(target, ramp);
+    let lamp = c.lamp.turned(target, ramp);
     let stepped = Stepped {
         answer: Answer::Reply {
             reply: lamp_reply(place, lamp),
@@ -134,8 +129,7 @@ fn get_lamp(c: Connector, place: Place, more: bool) -> Stepped
     requires { SoundConnector c }
     ensures { result ≡ get_lamp c place more }
 {
-    let lamp = c.lamp;
-    of_lamp(c, place, more, says(lamp_reply(place, lamp)))
+    of_lamp(c, place, more, says(lamp_reply(place, c.lamp)))
 }
 
 // What a connection asks of a connector at a place by a line; `kept` is the connector's own array.

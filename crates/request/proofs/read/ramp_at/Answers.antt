@@ -6,11 +6,3 @@ use Rattle.request.proofs.read.ramp_at.Goals as goal
 
 pub overflow_cast-ramp : goal.overflow_cast-ramp
 overflow_cast-ramp c = omega (arith, good_most _ _ _ _ (sym c.field_within.ensures ∙ c.in-Some.is))
-
-pub returns-in-None : goal.returns-in-None
-unfolding ramp_at
-returns-in-None c = rw (sym c.field_within.ensures ∙ c.in-None.is)
-
-pub returns-in-Some : goal.returns-in-Some
-unfolding ramp_at
-returns-in-Some c = rw (sym c.field_within.ensures ∙ c.in-Some.is)

@@ -6,15 +6,3 @@ use Rattle.request.proofs.read.set_lamp_at.Goals as goal
 
 pub overflow_cast-target : goal.overflow_cast-target
 overflow_cast-target c = omega (arith, good_most _ _ _ _ (sym c.field_within.ensures ∙ c.in-Some.is))
-
-pub returns-in-None : goal.returns-in-None
-unfolding set_lamp_at
-returns-in-None c = rw (sym c.field_within.ensures ∙ c.in-None.is)
-
-pub returns-in-Some : goal.returns-in-Some
-unfolding set_lamp_at
-returns-in-Some c =
-    rw (
-      sym c.field_within.ensures ∙ c.in-Some.is,
-      ← c.after_comma.ensures,
-    ) c.ramp_at.ensures

@@ -25,41 +25,25 @@ pub struct Command {
 }
 
 // Whether a place is a connector's.
+#[tactic(auto, unfolding(crate::specs::Given::place_within))]
 fn place_within(place: Place) -> bool
     ensures { result ≡ place_within place }
 {
-    if place.m != Place::INFRARED {
-        return false;
-    }
-    if place.port < 1 {
-        return false;
-    }
-    place.port <= Place::CONNECTORS as u64
+    place.m == Place::INFRARED && 1 <= place.port && place.port <= Place::CONNECTORS as u64
 }
 
 // Whether every field is within its limits.
+#[tactic(auto, unfolding(crate::specs::Given::given_within))]
 fn given_within(f: Given) -> bool
     ensures { result ≡ given_within f }
 {
-    if Code::MOST_ID < f.id {
-        return false;
-    }
-    if f.freq < Code::LEAST_FREQ {
-        return false;
-    }
-    if Code::MOST_FREQ < f.freq {
-        return false;
-    }
-    if f.repeat < 1 {
-        return false;
-    }
-    if Code::MOST_REPEAT < f.repeat {
-        return false;
-    }
-    if Code::MOST_OFFSET < f.offset {
-        return false;
-    }
-    f.offset % 2 != 0
+    f.id <= Code::MOST_ID
+        && Code::LEAST_FREQ <= f.freq
+        && f.freq <= Code::MOST_FREQ
+        && 1 <= f.repeat
+        && f.repeat <= Code::MOST_REPEAT
+        && f.offset <= Code::MOST_OFFSET
+        && f.offset % 2 != 0
 }
 
 // Whether counts are 1 to 260 pairs, each count legal.

@@ -5,7 +5,7 @@ ghost use Rattle.command.specs.Read.{CommandInto};
 ghost use Rattle.command.specs.Given.{place_within, given_within, counts_within, taken_as, EachFits, command_given};
 
 use code::Code;
-use request::Place;
+use request::{Name, Place};
 use words::Fields;
 
 // The fields of a command as they are given.
@@ -25,11 +25,11 @@ pub struct Command {
 }
 
 // Whether a place is a connector's.
-#[tactic(auto, unfolding(crate::specs::Given::place_within))]
+#[tactic(auto, unfolding(crate::specs::Given::place_within, request::specs::Address::address_fault))]
 fn place_within(place: Place) -> bool
     ensures { result ≡ place_within place }
 {
-    place.m == Place::INFRARED && 1 <= place.port && place.port <= Place::CONNECTORS as u64
+    request::address::address_fault(Name::SendIr, place).is_ok()
 }
 
 // Whether every field is within its limits.

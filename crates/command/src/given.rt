@@ -33,6 +33,7 @@ fn place_within(place: Place) -> bool
 }
 
 // Whether every field is within its limits.
+// It stays beside the composer's fields_fault, no plainer from there: 004 to 007 would stand below the writer, which knows 106 (command_given).
 #[tactic(auto, unfolding(crate::specs::Given::given_within))]
 fn given_within(f: Given) -> bool
     ensures { result ≡ given_within f }
@@ -47,6 +48,7 @@ fn given_within(f: Given) -> bool
 }
 
 // Whether counts are 1 to 260 pairs, each count legal.
+// It stays beside the composer's counts_fault, no plainer from there: 009, 010 and 020 would stand below the writer (command_given).
 fn counts_within(freq: u64, given: &[u64]) -> bool
     ensures { result ≡ counts_within freq given.now }
 {
@@ -74,6 +76,7 @@ fn put_counts(given: &[u64], counts: &mut [u16])
 }
 
 // The fields as they are taken.
+// It stays a function, no plainer as TryFrom, which would judge again what given_within has judged: taken requires that it has.
 fn taken(f: Given) -> Fields
     requires { given_within f ≡ true }
     ensures { result ≡ taken_as f }

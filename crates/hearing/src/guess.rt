@@ -11,7 +11,7 @@ use text::number::Number;
 fn digit_at(s: &[u8], at: usize) -> u64
     ensures { result ≡ digit_at s.now at }
 {
-    (byte_at(s, at) % 16) as u64
+    u64::from(byte_at(s, at) % 16)
 }
 
 // m:p, of one digit each.
@@ -26,13 +26,13 @@ fn place_at(s: &[u8], at: usize) -> Place
 }
 
 // The number at a place, 0 where there is none.
+#[tactic(auto, unfolding(crate::specs::Guess::value_at))]
 fn value_at(s: &[u8], at: usize) -> u64
     ensures { result ≡ value_at s.now at }
 {
     match text::number::number_at(s, at) {
-        Number::Missing => 0,
-        Number::TooLong(_) => 0,
         Number::Value(value, _) => value,
+        _ => 0,
     }
 }
 
@@ -42,26 +42,25 @@ fn mode_guess(s: &[u8]) -> Heard
     ensures { result ≡ mode_guess s.now }
 {
     match request::mode::mode_at(s, 7) {
-        None => Heard::NotReply,
         Some((mode, _)) => Heard::Mode(place_at(s, 3), mode),
+        None => Heard::NotReply,
     }
 }
 
 // device,m,..
+#[tactic(auto, unfolding(crate::specs::Guess::device_guess))]
 fn device_guess(s: &[u8]) -> Device
     ensures { result ≡ device_guess s.now }
 {
-    let m = byte_at(s, 7);
-    if m == b'0' {
-        return Device::Ethernet;
+    match byte_at(s, 7) {
+        b'0' => Device::Ethernet,
+        b'1' => Device::Infrared,
+        _ => Device::Relays,
     }
-    if m == b'1' {
-        return Device::Infrared;
-    }
-    Device::Relays
 }
 
 // state,m:p,s or stopir,m:p
+#[tactic(auto, unfolding(crate::specs::Guess::state_or_stop))]
 fn state_or_stop(s: &[u8]) -> Heard
     ensures { result ≡ state_or_stop s.now }
 {
@@ -72,48 +71,32 @@ fn state_or_stop(s: &[u8]) -> Heard
 }
 
 // LED_LIGHTING,m:p,level,target or LH-01
+#[tactic(auto, unfolding(crate::specs::Guess::lamp_or_version))]
 fn lamp_or_version(s: &[u8]) -> Heard
     ensures { result ≡ lamp_or_version s.now }
 {
     if byte_at(s, 1) != b'E' {
         return Heard::Version;
     }
-    match text::number::number_at(s, 17) {
-        Number::Missing => Heard::NotReply,
-        Number::TooLong(_) => Heard::NotReply,
-        Number::Value(level, end) => Heard::Lamp(
-            place_at(s, 13),
-            level,
-            value_at(s, after_comma(s, end)),
-        ),
-    }
+    let Number::Value(level, end) = text::number::number_at(s, 17) else {
+        return Heard::NotReply;
+    };
+    Heard::Lamp(place_at(s, 13), level, value_at(s, after_comma(s, end)))
 }
 
 // The reply that a line is, if it is one.
+#[tactic(auto, unfolding(crate::specs::Guess::guessed))]
 pub fn guessed(s: &[u8]) -> Heard
     ensures { result ≡ guessed s.now }
 {
-    let b = byte_at(s, 0);
-    if b == b's' {
-        return state_or_stop(s);
+    match byte_at(s, 0) {
+        b's' => state_or_stop(s),
+        b'E' => Heard::Error(value_at(s, 8), place_at(s, 4)),
+        b'c' => Heard::Complete(place_at(s, 11), value_at(s, 15)),
+        b'b' => Heard::Busy(place_at(s, 7), value_at(s, 11)),
+        b'I' => mode_guess(s),
+        b'd' => Heard::Listed(device_guess(s)),
+        b'e' => Heard::Listed(Device::End),
+        _ => lamp_or_version(s),
     }
-    if b == b'E' {
-        return Heard::Error(value_at(s, 8), place_at(s, 4));
-    }
-    if b == b'c' {
-        return Heard::Complete(place_at(s, 11), value_at(s, 15));
-    }
-    if b == b'b' {
-        return Heard::Busy(place_at(s, 7), value_at(s, 11));
-    }
-    if b == b'I' {
-        return mode_guess(s);
-    }
-    if b == b'd' {
-        return Heard::Listed(device_guess(s));
-    }
-    if b == b'e' {
-        return Heard::Listed(Device::End);
-    }
-    lamp_or_version(s)
 }

@@ -12,17 +12,7 @@ use reply::Reply;
 fn is_word(s: &[u8], w: &[u8]) -> bool
     ensures { result ≡ same w.now s.now }
 {
-    if s.len() != w.len() {
-        return false;
-    }
-    let mut i = 0;
-    while i < w.len() {
-        if s[i] != w[i] {
-            return false;
-        }
-        i += 1;
-    }
-    true
+    s == w
 }
 
 // Whether a line, with a CR behind it, is what the hub writes for a reply.
@@ -77,11 +67,9 @@ pub fn read_reply(line: &[u8]) -> Heard
     ensures { Hears line.now result }
 {
     let h = crate::guess::guessed(line);
-    if logger::table::writable(h) {
-        if is_line(line, h) {
-            return h;
-        }
-        return Heard::NotReply;
+    if logger::table::writable(h) && is_line(line, h) {
+        h
+    } else {
+        Heard::NotReply
     }
-    Heard::NotReply
 }

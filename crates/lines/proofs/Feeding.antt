@@ -2,6 +2,7 @@
 use Prim.Native.Nat.{ℕ, zero, suc, ◌+◌, ◌≤◌}
 use mathlib.Core.Path.{◌≡◌, refl, sym, ap, ◌∙◌, subst}
 use mathlib.Core.Bool.{true}
+use Rattle.std.proofs.Common.{Ok}
 use mathlib.Core.List.{List, [], ◌∷◌, ◌++◌, map, map-append, flatten}
 use native.Mathlib.Omega.{arith}
 use lib.Dec.{leb}
@@ -13,11 +14,11 @@ use Rattle.laws.proofs.Put.{over_front}
 use Rattle.lines.specs.declared.Assembler.{Assembler}
 use Rattle.lines.specs.Cut.{divided, line_of, lines_of}
 use Rattle.laws.specs.Put.{stored_in}
-use Rattle.lines.specs.Take.{assembler, fresh_assembler, counted, found_of, until_cr, Step, take_step}
+use Rattle.lines.specs.Take.{assembler, fresh_assembler, counted, found_of, until_cr, Step, joined_step}
 use Rattle.lines.specs.Feed.{Fed, fed, line_in, called, onward, fed_piece, feed}
 use Rattle.laws.proofs.Storing.{stored_whole, stores_stored}
-use Rattle.lines.proofs.Taking.{counted_few, counted_many, counted_on}
-use Rattle.lines.proofs.Keeps.{take_case, used_some}
+use Rattle.lines.proofs.Taking.{counted_few, counted_many, counted_on, granted}
+use Rattle.lines.proofs.Keeps.{joined_case, used_some}
 use Rattle.lines.proofs.Cutting.{divided_append, divided_ended, divided_unfinished}
 
 -- ---- what an assembler with its buffer stands for: the bytes of a line that has begun
@@ -68,17 +69,16 @@ fed_then {begun} {s} {t} next x y =
 
 -- a call feeds what it uses of its piece
 pub call_fed : {a : Assembler} {buffer begun : List ℕ} → Holds a buffer begun → (s : List ℕ)
-    → FedAs begun (take (take_step a buffer s).taken.used s) (called (take_step a buffer s))
+    → FedAs begun (take (joined_step a buffer s).taken.used s) (called a buffer (Ok (joined_step a buffer s)))
 call_fed {a} {buffer} {begun} h s =
-    take_case a buffer s (λ (x : Step). FedAs begun (take x.taken.used s) (called x))
-    (λ r. absurd (r h.room))
-    (λ k l.
+    joined_case a buffer s (λ (x : Step). FedAs begun (take x.taken.used s) (called a buffer (Ok x)))
+    (λ l.
     let m = holds_more h (until_cr s) in
     record {
       lines = rw (divided_ended s begun l) (line_found m);
       holds = rw (divided_ended s begun l) (holds_fresh _ m.room);
     })
-    (λ k l.
+    (λ l.
     record {
       lines = rw (take-length, divided_unfinished s begun l);
       holds = rw (take-length, divided_unfinished s begun l) (holds_more h s);
@@ -90,11 +90,12 @@ fed_piece_law zero [] l h = fed_none h
 fed_piece_law zero (b ∷ s) l h = absurd (omega arith)
 fed_piece_law (suc n) [] l h = fed_none h
 fed_piece_law (suc n) (b ∷ s) {a} {buffer} {begun} l h =
-    let used = (take_step a buffer (b ∷ s)).taken.used in
+    let used = (joined_step a buffer (b ∷ s)).taken.used in
     let c = call_fed h (b ∷ s) in
-    let k : length (drop used (b ∷ s)) ≤ n = omega (arith, length-drop used (b ∷ s), used_some a buffer (b ∷ s) h.room (omega arith)) in
-    subst (λ (t : List ℕ). FedAs begun t (fed_piece (suc n) (b ∷ s) a buffer)) (take-append-drop used (b ∷ s))
-    (fed_then (fed_piece n (drop used (b ∷ s))) c (fed_piece_law n (drop used (b ∷ s)) k c.holds))
+    let k : length (drop used (b ∷ s)) ≤ n = omega (arith, length-drop used (b ∷ s), used_some a buffer (b ∷ s) (omega arith)) in
+    rw (granted a buffer (b ∷ s) h.room)
+    (subst (λ (t : List ℕ). FedAs begun t (onward (called a buffer (Ok (joined_step a buffer (b ∷ s)))) (fed_piece n (drop used (b ∷ s))))) (take-append-drop used (b ∷ s))
+    (fed_then (fed_piece n (drop used (b ∷ s))) c (fed_piece_law n (drop used (b ∷ s)) k c.holds)))
 
 pub fed_pieces : (pieces : List (List ℕ)) {a : Assembler} {buffer begun : List ℕ} → Holds a buffer begun
     → FedAs begun (flatten pieces) (feed pieces a buffer)

@@ -1,6 +1,7 @@
 -- The loop over a piece: what is left of it gives the same as the whole did.
 use Prim.Native.Nat.{ℕ, suc, ◌+◌, ◌≤◌, ◌<◌}
-use mathlib.Core.Path.{◌≡◌, sym, ap, ◌∙◌}
+use mathlib.Core.Path.{◌≡◌, refl, sym, ap, ◌∙◌}
+use Rattle.std.proofs.Common.{Ok, Err}
 use mathlib.Core.Bool.{true, false, cond}
 use mathlib.Core.List.{List, ◌∷◌}
 use native.Mathlib.Omega.{arith}
@@ -12,10 +13,10 @@ use lib.Seq.{sets}
 use borrow.Author.Tests.{eq-eqb, ne_eqb, lt-ltb, le-leb, lt-leb, leb-true, leb-false, ltb-true, ltb-false}
 use Rattle.laws.proofs.Choice.{by_test}
 use Rattle.laws.proofs.Lists.{drop_next}
-use Rattle.lines.specs.Take.{assembler, fresh_assembler, counted, found_of, until_cr, Step, step_of, take_step, Takes}
+use Rattle.lines.specs.Take.{assembler, fresh_assembler, counted, found_of, until_cr, Step, step_of, joined_step, take_step, Takes}
 use Rattle.lines.specs.declared.Assembler.{Assembler}
 use Rattle.lines.specs.declared.Found.{Found}
-use Rattle.lines.specs.declared.Found.TheVariants.{Nothing, Line, Overlong, Refused}
+use Rattle.lines.specs.declared.Found.TheVariants.{Nothing, Line, Overlong}
 use Rattle.laws.proofs.Storing.{sets_out, stores_stored}
 
 -- ---- how bytes are counted
@@ -75,16 +76,17 @@ step_from used size buffer rest =
     (found_of (counted (size + length (until_cr rest))) true) (sets buffer size (until_cr rest)))
     (step_of (assembler (counted (size + length rest))) (used + length rest) Nothing (sets buffer size rest))
 
-pub refused : (a : Assembler) (buffer piece : List ℕ) → (length buffer ≡ 4096 → ⊥)
-    → take_step a buffer piece ≡ step_of a 0 (Refused 107) buffer
+pub refused : (a : Assembler) (buffer piece : List ℕ) → (length buffer ≡ 4096 → ⊥) → take_step a buffer piece ≡ Err 107
 unfolding take_step
 refused a buffer piece h = rw (ne_eqb (length buffer) 4096 h)
 
-pub from_start : (a : Assembler) (buffer piece : List ℕ) → length buffer ≡ 4096
-    → take_step a buffer piece ≡ step_from 0 a.size buffer piece
-unfolding take_step step_from
-from_start a buffer piece h = rw (
-  eq-eqb (length buffer) 4096 h,
+pub granted : (a : Assembler) (buffer piece : List ℕ) → length buffer ≡ 4096 → take_step a buffer piece ≡ Ok (joined_step a buffer piece)
+unfolding take_step
+granted a buffer piece h = rw (eq-eqb (length buffer) 4096 h)
+
+pub from_start : (a : Assembler) (buffer piece : List ℕ) → joined_step a buffer piece ≡ step_from 0 a.size buffer piece
+unfolding joined_step step_from
+from_start a buffer piece = rw (
   zero-add,
   zero-add,
   ← stores_stored buffer a.size (until_cr piece),
@@ -145,6 +147,10 @@ module _ (used size : ℕ) (buffer piece : List ℕ) where
   at_end_law h k = rw (drop_of_length-le piece h, add-zero, add-zero, counted_sound size k)
 
 -- what a call returns
-pub takes : {step : Step} {a : Assembler} {used : ℕ} {f : Found} {buffer : List ℕ}
-    → step ≡ step_of a used f buffer → Takes step (record { assembler = a; used = used; found = f }) buffer
-takes e = record { result = ap (λ (s : Step). s.taken) (sym e); laid = ap (λ (s : Step). s.buffer) (sym e) }
+pub refuses : (a : Assembler) (buffer piece : List ℕ) → (length buffer ≡ 4096 → ⊥) → Takes (take_step a buffer piece) buffer (Err 107) buffer
+refuses a buffer piece h = rw (refused a buffer piece h) (record { result = refl; laid = refl })
+
+pub takes : (a : Assembler) (buffer piece : List ℕ) {to : Assembler} {used : ℕ} {f : Found} {after : List ℕ} → length buffer ≡ 4096
+    → step_from 0 a.size buffer piece ≡ step_of to used f after
+    → Takes (take_step a buffer piece) buffer (Ok (record { assembler = to; used = used; found = f })) after
+takes a buffer piece h e = rw (granted a buffer piece h, from_start a buffer piece, e) (record { result = refl; laid = refl })

@@ -2,7 +2,7 @@
 ghost use Rattle.log_book.specs.Book.{SoundAll};
 
 use logger::Heard;
-use logger::tally::{Average, Tally};
+use logger::tally::Tally;
 use request::Place;
 
 // Those of the connectors come first, then those of the relays.
@@ -46,10 +46,7 @@ impl Book {
     }
 
     // A place that has no state has no reading.
-    pub fn average(self, place: Place) -> Average {
-        match self.tallies.iter().find(|t| t.place == place) {
-            Some(tally) => tally.average(),
-            None => Average::NoReading,
-        }
+    pub fn average(self, place: Place) -> Option<(u64, u64)> {
+        self.tallies.iter().find(|t| t.place == place)?.average()
     }
 }

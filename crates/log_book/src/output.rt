@@ -4,7 +4,6 @@ ghost use Rattle.std.specs.Prelude.{◌≤◌};
 use command::given::Command;
 use composer::Wish;
 use composer::compose::{compose, compose_sendir};
-use logger::tally::Average;
 use logger::{Device, Heard};
 use request::Place;
 use request::mode::Mode;
@@ -85,10 +84,10 @@ impl Output {
         let _ = self.put_heard(heard);
     }
 
-    pub fn average(&mut self, average: Average) {
+    pub fn average(&mut self, average: Option<(u64, u64)>) {
         let _ = match average {
-            Average::NoReading => writeln!(self, "no reading"),
-            Average::Of(ones, readings) => writeln!(self, "{ones} of {readings}"),
+            None => writeln!(self, "no reading"),
+            Some((ones, readings)) => writeln!(self, "{ones} of {readings}"),
         };
     }
 

@@ -1,20 +1,18 @@
--- Laws of the loop that looks a number up in a list.
-use Prim.Native.Nat.{ℕ, ◌+◌, ◌≤◌, ◌<◌}
-use mathlib.Core.Path.{◌≡◌}
-use mathlib.Core.Bool.{true, false}
-use mathlib.Core.List.{List}
-use borrow.Author.Tests.{eq-eqb, ne_eqb}
-use lib.ListN.{length, drop, get_or, drop_of_length-le}
+-- What the library's look-up in a list says, in the words of a table of numbers.
+use Prim.Native.Nat.{ℕ}
+use mathlib.Core.Path.{◌≡◌, refl}
+use mathlib.Core.List.{List, [], ◌∷◌}
+use native.Mathlib.Omega.{arith}
+use Rattle.std.specs.Prelude.{nat_eq}
+use Rattle.std.specs.List.{list_any}
+use Rattle.std.proofs.lemmas.Bool.Decides.{nat_tests}
+use lib.Dec.{eqb}
 use Rattle.laws.specs.Checks.{one_of}
-use Rattle.laws.proofs.Lists.{drop_next}
 
--- the first i numbers of a list are others
-module _ (l : List ℕ) (n i : ℕ) (a : one_of (drop i l) n ≡ one_of l n) where
-  pub other_more : i < length l → (n ≡ get_or l i 0 → ⊥) → one_of (drop (i + 1) l) n ≡ one_of l n
-  other_more h e = rw (drop_next l i 0 h, ne_eqb n (get_or l i 0) e) at a
+eqb_swap : (x n : ℕ) → eqb x n ≡ eqb n x
+eqb_swap x n = grind (arith, nat_tests)
 
-  pub other_hit : i < length l → n ≡ get_or l i 0 → true ≡ one_of l n
-  other_hit h e = rw (drop_next l i 0 h, eq-eqb n (get_or l i 0) e) at a
-
-  pub other_end : length l ≤ i → false ≡ one_of l n
-  other_end h = rw (drop_of_length-le l h) at a
+-- whether a list has a number
+pub has : (l : List ℕ) (n : ℕ) → list_any (λ y. nat_eq y n) l ≡ one_of l n
+has [] n = refl
+has (x ∷ l) n = rw (has l n, eqb_swap x n)

@@ -1,13 +1,11 @@
 -- A tally of what was heard of one place, and the average. Only a state of that place, 0 or 1, is a reading. That a tally is the count of them
 -- over any list of lines is the theorem `tally_counts` of proofs/Tallies.antt.
-use Rattle.std.specs.Prelude.{ℕ, suc, ◌+◌, ◌-◌, ◌≤◌, ◌≡◌, Bool, false, cond, not, ◌&&◌, ◌||◌, List, [], ◌∷◌, eqb}
+use Rattle.std.specs.Prelude.{ℕ, suc, ◌+◌, ◌-◌, ◌≤◌, ◌≡◌, Bool, false, cond, not, ◌&&◌, ◌||◌, Option, Some, None, List, [], ◌∷◌, eqb}
 use Rattle.laws.specs.Checks.{◌⇒◌, first}
 use Rattle.request.specs.declared.Place.{Place}
 use Rattle.logger.specs.declared.Heard.{Heard}
 use Rattle.logger.specs.declared.Heard.TheVariants.{NotReply, State, Complete, Busy, Stop, Mode, Error, Version, Listed, Lamp}
 use Rattle.logger.specs.declared.tally.Tally.{Tally}
-use Rattle.logger.specs.declared.tally.Average.{Average}
-use Rattle.logger.specs.declared.tally.Average.TheVariants.{NoReading, Of}
 
 abbrev pub same_place : Place → Place → Bool
 same_place a b = eqb a.m b.m && eqb a.port b.port
@@ -57,8 +55,8 @@ abbrev pub tallied : Place → List Heard → Tally
 tallied place l = tallied_from (fresh_tally place) l
 
 -- "the exact pair (ones, readings), and there is none .. where there is no reading"
-unfoldable pub average_of : Tally → Average
-average_of t = cond (eqb t.readings 0) NoReading (Of t.ones t.readings)
+unfoldable pub average_of : Tally → Option (ℕ × ℕ)
+average_of t = cond (eqb t.readings 0) None (Some (t.ones, t.readings))
 
 -- of how many a test holds
 abbrev pub how_many : {A : Type 0} → (A → Bool) → List A → ℕ

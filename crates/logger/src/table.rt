@@ -6,30 +6,22 @@ ghost use Rattle.logger.specs.Heard.{is_port_of, is_connector, is_relay, is_nowh
 use crate::Heard;
 use request::{Ask, Place};
 
-// The greatest id of a command.
+// The greatest id of a command. It stays a number of its own beside `Code::MOST_ID`: the logger's half of the talk would else hang on the
+// reader of codes for this one number. `exact` of crates/logged holds both to be the same.
 const MOST_ID: u64 = 65535;
 
 // 0:0, the place of an error that names none.
 fn is_nowhere(a: Place) -> bool
     ensures { result ≡ is_nowhere a }
 {
-    if a.m != 0 {
-        return false;
-    }
-    a.port == 0
+    a == Place::nowhere()
 }
 
 // Whether a place is one of a module that has so many ports.
 fn is_port_of(m: u64, ports: usize, a: Place) -> bool
     ensures { result ≡ is_port_of m ports a }
 {
-    if a.m != m {
-        return false;
-    }
-    if a.port < 1 {
-        return false;
-    }
-    a.port <= ports as u64
+    a.m == m && 1 <= a.port && a.port <= ports as u64
 }
 
 fn is_connector(a: Place) -> bool
@@ -48,14 +40,7 @@ fn is_relay(a: Place) -> bool
 fn one_of(l: &[u64], n: u64) -> bool
     ensures { result ≡ one_of l.now n }
 {
-    let mut i = 0;
-    while i < l.len() {
-        if n == l[i] {
-            return true;
-        }
-        i += 1;
-    }
-    false
+    l.contains(&n)
 }
 
 // Whether a hub writes an error of this number for this place.
@@ -84,54 +69,22 @@ fn is_level(level: u64, target: u64) -> bool
     if target == 0 {
         return level == 0;
     }
-    if Ask::MOST_TARGET < target {
-        return false;
-    }
-    level <= Ask::MOST_TARGET
+    target <= Ask::MOST_TARGET && level <= Ask::MOST_TARGET
 }
 
 // Whether a hub can write this reply.
+#[tactic(auto, unfolding(crate::specs::Heard::writable))]
 pub fn writable(h: Heard) -> bool
     ensures { result ≡ writable h }
 {
     match h {
         Heard::NotReply => false,
-        Heard::State(a, state) => {
-            if 1 < state {
-                return false;
-            }
-            if is_relay(a) {
-                return true;
-            }
-            is_connector(a)
-        }
-        Heard::Complete(a, id) => {
-            if MOST_ID < id {
-                return false;
-            }
-            is_connector(a)
-        }
-        Heard::Busy(a, id) => {
-            if MOST_ID < id {
-                return false;
-            }
-            is_connector(a)
-        }
+        Heard::State(a, state) => state <= 1 && (is_relay(a) || is_connector(a)),
+        Heard::Complete(a, id) | Heard::Busy(a, id) => id <= MOST_ID && is_connector(a),
         Heard::Stop(a) => is_connector(a),
-        Heard::Mode(a, mode) => {
-            if is_connector(a) {
-                return request::mode::may_have(a.port, mode);
-            }
-            false
-        }
+        Heard::Mode(a, mode) => is_connector(a) && request::mode::may_have(a.port, mode),
         Heard::Error(n, a) => is_error(n, a),
-        Heard::Version => true,
-        Heard::Listed(_) => true,
-        Heard::Lamp(a, level, target) => {
-            if is_connector(a) {
-                return is_level(level, target);
-            }
-            false
-        }
+        Heard::Version | Heard::Listed(_) => true,
+        Heard::Lamp(a, level, target) => is_connector(a) && is_level(level, target),
     }
 }

@@ -52,12 +52,9 @@ pub fn periods_of(counts: &[u16; Code::MOST_COUNTS], from: usize, to: usize) -> 
     requires { (from ≤ to) × (to ≤ most_pairs) }
     ensures { result ≡ periods (lasts (numbers counts.now (2 * from) (2 * (to - from)))) }
 {
-    let end = 2 * to;
-    let mut sum: u32 = 0;
-    let mut i = 2 * from;
-    while i < end {
+    let mut sum = 0;
+    for i in 2 * from..2 * to {
         sum += wide(counts[i]);
-        i += 1;
     }
     Periods(sum)
 }

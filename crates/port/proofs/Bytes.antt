@@ -13,7 +13,7 @@ use Rattle.laws.proofs.Put.{over_length}
 use Rattle.laws.proofs.Parts.{part_here}
 use Rattle.lines.specs.declared.Assembler.{Assembler}
 use Rattle.lines.specs.declared.Found.TheVariants.{Nothing}
-use Rattle.lines.specs.Take.{assembler, fresh_assembler, SoundAssembler, counted, found_of, until_cr, Step, step_of, take_step}
+use Rattle.lines.specs.Take.{assembler, fresh_assembler, SoundAssembler, counted, found_of, until_cr, Step, step_of, joined_step}
 use Rattle.lines.proofs.Taking.{counted_most, step_from, from_start, at_byte, at_cr, at_end_law}
 use Rattle.connector.specs.declared.Answer.TheVariants.{Taken}
 use Rattle.hub.specs.declared.HubChange.TheVariants as change
@@ -38,27 +38,27 @@ shift size buffer rest =
 
 module _ (a : Assembler) (buffer : List ℕ) (k : SoundAssembler a) (room : length buffer ≡ 4096) where
   -- one byte that is no CR
-  one_byte : (b : ℕ) → (b ≡ 13 → ⊥) → take_step a buffer (b ∷ []) ≡ step_of (assembler (counted (suc a.size))) 1 Nothing (set buffer a.size b)
+  one_byte : (b : ℕ) → (b ≡ 13 → ⊥) → joined_step a buffer (b ∷ []) ≡ step_of (assembler (counted (suc a.size))) 1 Nothing (set buffer a.size b)
   unfolding found_of
   one_byte b ne =
-      from_start a buffer (b ∷ []) room
+      from_start a buffer (b ∷ [])
       ∙ at_byte 0 a.size buffer (b ∷ []) (omega arith) ne room
       ∙ at_end_law 1 (counted (suc a.size)) (set buffer a.size b) (b ∷ []) (omega arith) (counted_most (suc a.size))
 
   -- and more behind it
   byte_more : (b : ℕ) (s : List ℕ) → (b ≡ 13 → ⊥)
-      → take_step a buffer (b ∷ s) ≡ further 1 (take_step (assembler (counted (suc a.size))) (set buffer a.size b) s)
+      → joined_step a buffer (b ∷ s) ≡ further 1 (joined_step (assembler (counted (suc a.size))) (set buffer a.size b) s)
   byte_more b s ne =
-      from_start a buffer (b ∷ s) room
+      from_start a buffer (b ∷ s)
       ∙ at_byte 0 a.size buffer (b ∷ s) (omega arith) ne room
       ∙ shift (counted (suc a.size)) (set buffer a.size b) s
-      ∙ ap (further 1) (sym (from_start (assembler (counted (suc a.size))) (set buffer a.size b) s (length-set buffer a.size b ∙ room)))
+      ∙ ap (further 1) (sym (from_start (assembler (counted (suc a.size))) (set buffer a.size b) s))
 
   -- a CR
-  cr_alone : (s : List ℕ) → take_step a buffer (13 ∷ s) ≡ take_step a buffer (13 ∷ [])
+  cr_alone : (s : List ℕ) → joined_step a buffer (13 ∷ s) ≡ joined_step a buffer (13 ∷ [])
   cr_alone s =
-      let ended : (t : List ℕ) → take_step a buffer (13 ∷ t) ≡ step_of fresh_assembler 1 (found_of a.size true) buffer =
-      λ t. from_start a buffer (13 ∷ t) room ∙ at_cr 0 a.size buffer (13 ∷ t) (omega arith) refl k.few in
+      let ended : (t : List ℕ) → joined_step a buffer (13 ∷ t) ≡ step_of fresh_assembler 1 (found_of a.size true) buffer =
+      λ t. from_start a buffer (13 ∷ t) ∙ at_cr 0 a.size buffer (13 ∷ t) (omega arith) refl k.few in
       ended s ∙ sym (ended [])
 
 -- ---- the server
@@ -135,7 +135,7 @@ module _ (s : Server) (store buffers : List ℕ) (connection room : ℕ) (k : St
   unfolding served_step
   served_more b p ne =
       let fits : connection * buffer_size + buffer_size ≤ length buffers = omega (arith, k.long) in
-      let step = take_step grown (kept b) p in
+      let step = joined_step grown (kept b) p in
       let size : length (kept b) ≡ length step.buffer = sym (take_size grown (kept b) p) in
       rw (
         byte_more (assembler_at s connection) (buffer_at buffers connection) sound_at part_room b p ne,

@@ -9,7 +9,7 @@ use lib.Seq.{length-take-le}
 use borrow.Author.Tests.{le-ltb, eq-eqb}
 use Rattle.laws.specs.Put.{over, Put}
 use Rattle.laws.proofs.Put.{over_front, over_length, then}
-use Rattle.lines.specs.Take.{take_step}
+use Rattle.lines.specs.Take.{joined_step}
 use Rattle.reply.proofs.Lengths.{reply_fits}
 use Rattle.connector.specs.declared.Answer.{Answer}
 use Rattle.connector.specs.declared.Answer.TheVariants as answer
@@ -36,7 +36,7 @@ module _ (s : Server) (store buffers : List ℕ) (connection : ℕ) (piece : Lis
   pub piece_in_range : InRange (piece_step s store buffers connection piece room).served.change
   unfolding served_step
   piece_in_range =
-      let step = take_step (assembler_at s connection) (buffer_at buffers connection) piece in
+      let step = joined_step (assembler_at s connection) (buffer_at buffers connection) piece in
       piece_case s store buffers connection piece room (λ (x : PieceStep). InRange x.served.change) (λ number. tt)
       (λ c h. found_changes s.hub store connection room step.buffer step.taken.found)
 

@@ -21,11 +21,10 @@ use Rattle.lines.specs.declared.Assembler.{Assembler}
 use Rattle.lines.specs.declared.Found.{Found}
 use Rattle.lines.specs.declared.Found.TheVariants as found
 use Rattle.lines.specs.Cut.{line_of, divided}
-use Rattle.lines.specs.Take.{fresh_assembler, counted, found_of, until_cr, Step, take_step}
+use Rattle.lines.specs.Take.{fresh_assembler, counted, found_of, until_cr, Step, joined_step}
 use Rattle.lines.specs.Feed.{line_in, feed}
 use Rattle.lines.proofs.Cutting.{divided_append}
 use Rattle.lines.proofs.Feeding.{Holds, holds_fresh, call_fed}
-use Rattle.lines.proofs.Keeps.{take_case}
 use Rattle.hub.specs.declared.Hub.{Hub}
 use Rattle.hub.specs.Record.{fresh_hub, applied}
 use Rattle.hub.specs.Line.{line_step}
@@ -187,41 +186,21 @@ reached_shows h (call ∷ l) store st =
 
 -- ---- the hub on what the assembler has found
 
--- the assembler has not refused
-abbrev Met : Found → Type 0
-Met found.Nothing = Unit
-Met (found.Line size) = Unit
-Met found.Overlong = Unit
-Met (found.Refused number) = ⊥
-
-take_met : (a : Assembler) (buffer bytes : List ℕ) → length buffer ≡ buffer_size → Met (take_step a buffer bytes).taken.found
-unfolding found_of
-take_met a buffer bytes h =
-    take_case a buffer bytes (λ (x : Step). Met x.taken.found) (λ r. absurd (r h))
-    (λ k l.
-    let size = counted (a.size + length (until_cr bytes)) in
-    cond_case Met (leb size buffer_size) (found.Line size) found.Overlong (λ e. tt) (λ e. tt))
-    (λ k l. tt)
-
 module _ (hub : Hub) (store : List ℕ) (c room : ℕ) (buffer : List ℕ) where
   -- the calls that it asks of the hub
   abbrev asked : Found → List Call
   asked f = map (call_of c room) (line_in buffer f)
 
-  found_told : (f : Found) → Met f
-      → answer_told (some c) (answer_out (found_step hub store c room buffer f).decided.answer []) ≡ told (asked f) (run hub store (asked f))
-  found_told found.Nothing m = refl
-  found_told (found.Line size) m = sym (append-nil _)
-  found_told found.Overlong m = sym (append-nil _)
-  found_told (found.Refused number) m = absurd m
+  found_told : (f : Found) → answer_told (some c) (answer_out (found_step hub store c room buffer f).decided.answer []) ≡ told (asked f) (run hub store (asked f))
+  found_told found.Nothing = refl
+  found_told (found.Line size) = sym (append-nil _)
+  found_told found.Overlong = sym (append-nil _)
 
-  found_after : (f : Found) → Met f
-      → record { hub = applied hub (found_step hub store c room buffer f).decided.change; store = (found_step hub store c room buffer f).store }
+  found_after : (f : Found) → record { hub = applied hub (found_step hub store c room buffer f).decided.change; store = (found_step hub store c room buffer f).store }
       ≡ reached hub store (asked f)
-  found_after found.Nothing m = refl
-  found_after (found.Line size) m = refl
-  found_after found.Overlong m = refl
-  found_after (found.Refused number) m = absurd m
+  found_after found.Nothing = refl
+  found_after (found.Line size) = refl
+  found_after found.Overlong = refl
 
 -- ---- the lines of bytes behind others
 module _ (room c : ℕ) where
@@ -258,15 +237,14 @@ module _ (room : ℕ) (enough : 128 ≤ room) where
     step_gives {begun} s k bytes =
         let a = assembler_at s.server c in
         let buffer = buffer_at s.buffers c in
-        let step = take_step a buffer bytes in
+        let step = joined_step a buffer bytes in
         let fed = call_fed (k.each c (omega arith)) bytes in
-        let met = take_met a buffer bytes (buffer_room k c (omega arith)) in
         let o = found_step s.server.hub s.store c room step.buffer step.taken.found in
         let calls = ap (map (call_of c room)) fed.lines in
         gives_alike calls (λ d less. refl)
         (record {
-          told = found_told s.server.hub s.store c room step.buffer step.taken.found met;
-          after = found_after s.server.hub s.store c room step.buffer step.taken.found met;
+          told = found_told s.server.hub s.store c room step.buffer step.taken.found;
+          after = found_after s.server.hub s.store c room step.buffer step.taken.found;
           stands =
               stands_set c (omega arith) k (applied s.server.hub o.decided.change) o.store step.taken.assembler step.buffer
               (divided (begun c) (take step.taken.used bytes)).rest fed.holds;

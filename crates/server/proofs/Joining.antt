@@ -15,8 +15,9 @@ use Rattle.lines.specs.declared.Assembler.{Assembler}
 use Rattle.lines.specs.declared.Found.{Found}
 use Rattle.lines.specs.declared.Found.TheVariants as found
 use Rattle.lines.specs.declared.Taken.{Taken}
-use Rattle.lines.specs.Take.{counted, found_of, until_cr, Step, take_step, Takes}
-use Rattle.lines.proofs.Keeps.{take_case}
+use Rattle.lines.specs.Take.{counted, found_of, until_cr, Step, joined_step, take_step, Takes}
+use Rattle.lines.proofs.Keeps.{joined_case, takes_joined}
+use Rattle.std.proofs.Common.{Result, Ok}
 use Rattle.hub.specs.declared.Hub.{Hub}
 use Rattle.hub.specs.declared.Answered.{Answered}
 use Rattle.hub.specs.Record.{applied, InRange}
@@ -28,34 +29,44 @@ use Rattle.server.specs.Piece.{found_step, served_step, Serves, Joins, FoundAnsw
 -- ---- the assembler's buffer
 
 -- it stays as long as it was
-pub take_size : (a : Assembler) (buffer piece : List ℕ) → length (take_step a buffer piece).buffer ≡ length buffer
+pub take_size : (a : Assembler) (buffer piece : List ℕ) → length (joined_step a buffer piece).buffer ≡ length buffer
 take_size a buffer piece =
     let kept : (bytes : List ℕ) → _ = λ bytes. ap length (sym (stores_stored buffer a.size bytes)) ∙ length-sets buffer a.size bytes in
-    take_case a buffer piece (λ (x : Step). length x.buffer ≡ length buffer) (λ r. refl) (λ k l. kept (until_cr piece)) (λ k l. kept piece)
+    joined_case a buffer piece (λ (x : Step). length x.buffer ≡ length buffer) (λ l. kept (until_cr piece)) (λ l. kept piece)
 
 -- what is found is within it
 pub found_fits : (a : Assembler) (buffer piece : List ℕ) (room from : ℕ) → from + buffer_size ≤ room
-    → Fits (take_step a buffer piece).taken.found room from
+    → Fits (joined_step a buffer piece).taken.found room from
 unfolding found_of
 found_fits a buffer piece room from h =
-    take_case a buffer piece (λ (x : Step). Fits x.taken.found room from) (λ r. tt)
-    (λ k l.
+    joined_case a buffer piece (λ (x : Step). Fits x.taken.found room from)
+    (λ l.
     let size = counted (a.size + length (until_cr piece)) in
     cond_case (λ (f : Found). Fits f room from) (leb size buffer_size) (found.Line size) found.Overlong
     (λ e. omega (arith, leb-true size buffer_size e)) (λ e. tt))
-    (λ k l. tt)
+    (λ l. tt)
 
--- the call on a part of the buffers, and the part in its place again
+-- the call on a part of the buffers is not refused
+pub part_taken : (buffers : List ℕ) (from n : ℕ) (a : Assembler) (piece : List ℕ) {r : Result Taken ℕ} {part : List ℕ} → n ≡ buffer_size
+    → from + buffer_size ≤ length buffers → Takes (take_step a (take n (drop from buffers)) piece) (take n (drop from buffers)) r part
+    → let step = joined_step a (take buffer_size (drop from buffers)) piece in (r ≡ Ok step.taken) × (part ≡ step.buffer)
+part_taken buffers from n a piece {r} {part} e fits t =
+    let buffer = take buffer_size (drop from buffers) in
+    let room : buffer_size ≤ length (drop from buffers) = rw length-drop (omega arith) in
+    let is : Takes (take_step a buffer piece) buffer r part = rw e at t in
+    takes_joined a buffer piece (length-take-le buffer_size (drop from buffers) room) is
+
+-- and the part is in its place again
 pub joins : (buffers : List ℕ) (from n : ℕ) (a : Assembler) (piece : List ℕ) {r : Taken} {part : List ℕ} → n ≡ buffer_size
-    → from + buffer_size ≤ length buffers → Takes (take_step a (take n (drop from buffers)) piece) r part
-    → Joins (take_step a (take buffer_size (drop from buffers)) piece) buffers from r
+    → from + buffer_size ≤ length buffers → Takes (take_step a (take n (drop from buffers)) piece) (take n (drop from buffers)) (Ok r) part
+    → Joins (joined_step a (take buffer_size (drop from buffers)) piece) buffers from r
     (take from buffers ++ (part ++ drop n (drop from buffers)))
 joins buffers from n a piece {r} {part} e fits t =
-    let is : Takes (take_step a (take buffer_size (drop from buffers)) piece) r part = rw e at t in
+    let is = part_taken buffers from n a piece e fits t in
     let room : buffer_size ≤ length (drop from buffers) = rw length-drop (omega arith) in
     let sized =
-    ap length is.laid ∙ take_size a (take buffer_size (drop from buffers)) piece ∙ length-take-le buffer_size (drop from buffers) room ∙ sym e in
-    record { result = is.result; laid = laid_back buffers from part n sized ∙ ap (over buffers from) is.laid }
+    ap length is.1 ∙ take_size a (take buffer_size (drop from buffers)) piece ∙ length-take-le buffer_size (drop from buffers) room ∙ sym e in
+    record { result = cc (is.0); laid = laid_back buffers from part n sized ∙ ap (over buffers from) is.1 }
 
 -- ---- the line in the buffers
 
@@ -66,14 +77,12 @@ module _ (hub : Hub) (store : List ℕ) (connection room : ℕ) where
   found_in buffers part from found.Nothing h k = refl
   found_in buffers part from (found.Line size) h k = rw (over_front_here buffers from part h size (omega arith))
   found_in buffers part from found.Overlong h k = refl
-  found_in buffers part from (found.Refused number) h k = refl
 
   -- what it changes is of a connector or a relay that there is
   pub found_changes : (buffer : List ℕ) (f : Found) → InRange (found_step hub store connection room buffer f).decided.change
   found_changes buffer found.Nothing = tt
   found_changes buffer (found.Line size) = line_in_range hub store connection (take size buffer) room
   found_changes buffer found.Overlong = overlong_in_range connection room
-  found_changes buffer (found.Refused number) = tt
 
 pub found_in_range : {hub : Hub} {store : List ℕ} {connection : ℕ} {buffer : List ℕ} {f : Found} {before : List ℕ} {a : Answered}
     {kept reply : List ℕ} → FoundAnswers hub store connection buffer f before a kept reply → InRange a.change
@@ -83,7 +92,7 @@ found_in_range {hub} {store} {connection} {buffer} {f} {before} x =
 -- ---- both together
 pub serves : (s : Server) (store buffers : List ℕ) (connection : ℕ) (piece : List ℕ) {before reply kept after : List ℕ} {t : Taken} {a : Answered}
     → connection ≤ 7 → length buffers ≡ all_buffers
-    → Joins (take_step (assembler_at s connection) (buffer_at buffers connection) piece) buffers (connection * buffer_size) t after
+    → Joins (joined_step (assembler_at s connection) (buffer_at buffers connection) piece) buffers (connection * buffer_size) t after
     → FoundAnswers s.hub store connection (drop (connection * buffer_size) after) t.found before a kept reply
     → Serves (served_step s store buffers connection piece (length before)) before
     (record {
@@ -95,7 +104,7 @@ pub serves : (s : Server) (store buffers : List ℕ) (connection : ℕ) (piece :
     }) kept after reply
 unfolding served_step
 serves s store buffers connection piece {before} {reply} {kept} {after} {t} {a} c h j x =
-    let step = take_step (assembler_at s connection) (buffer_at buffers connection) piece in
+    let step = joined_step (assembler_at s connection) (buffer_at buffers connection) piece in
     let from = connection * buffer_size in
     let room : buffer_size ≤ length (drop from buffers) = rw length-drop (omega arith) in
     let sized : length step.buffer ≡ buffer_size =

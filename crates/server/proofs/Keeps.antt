@@ -1,19 +1,18 @@
 -- Soundness of the server: a fresh one has it, and every event keeps it; a refused piece changes nothing, and what a piece uses is within it.
-use Prim.Native.Nat.{ℕ, ◌*◌, ◌≤◌, ◌<◌}
+use Prim.Native.Nat.{ℕ, ◌≤◌, ◌<◌}
 use mathlib.Core.Path.{◌≡◌}
 use mathlib.Core.Bool.{not}
 use mathlib.Core.List.{List}
 use native.Mathlib.Omega.{arith}
 use borrow.Author.Tests.{ltb-false, eqb-true, not-false}
 use lib.Dec.{ltb, eqb}
-use lib.ListN.{length, take, drop, length-drop, get_or-replicate}
-use lib.Seq.{length-take-le}
+use lib.ListN.{length, take, get_or-replicate}
 use Rattle.laws.proofs.Choice.{cond_case}
 use Rattle.laws.proofs.Parts.{stored_at}
 use Rattle.lines.specs.declared.Found.{Found}
 use Rattle.lines.specs.declared.Found.TheVariants as found
-use Rattle.lines.specs.Take.{fresh_assembler, SoundAssembler, take_step}
-use Rattle.lines.proofs.Keeps.{take_sound, used_within, used_some}
+use Rattle.lines.specs.Take.{fresh_assembler, SoundAssembler, joined_step}
+use Rattle.lines.proofs.Keeps.{joined_sound, used_within, used_some}
 use Rattle.lines.proofs.Keeps as lines
 use Rattle.hub.specs.declared.Hub.{Hub}
 use Rattle.hub.specs.Record.{applied, SoundHub}
@@ -21,7 +20,7 @@ use Rattle.hub.proofs.Keeps.{line_sound, overlong_sound}
 use Rattle.hub.proofs.Keeps as hub
 use Rattle.server.specs.declared.Server.{Server}
 use Rattle.server.specs.declared.Served.{Served}
-use Rattle.server.specs.Record.{connections, buffer_size, all_buffers, fresh_server, assembler_at, buffer_at, SoundServer}
+use Rattle.server.specs.Record.{connections, all_buffers, fresh_server, assembler_at, buffer_at, SoundServer}
 use Rattle.server.specs.Piece.{PieceStep, refusing, found_step, served_step, piece_step}
 use Rattle.server.specs.Calls.{closed_call, reading_call, wait_call}
 
@@ -41,7 +40,6 @@ found_sound : (h : Hub) (store : List ℕ) (connection room : ℕ) (buffer : Lis
 found_sound h store connection room buffer found.Nothing s = s
 found_sound h store connection room buffer (found.Line size) s = line_sound h store connection (take size buffer) room s
 found_sound h store connection room buffer found.Overlong s = overlong_sound h connection room s
-found_sound h store connection room buffer (found.Refused number) s = s
 
 module _ (s : Server) (store buffers : List ℕ) (connection : ℕ) (piece : List ℕ) (room : ℕ) where
   -- what holds of the server as it was, and of what a piece of one of its connections makes, holds of a piece's
@@ -59,13 +57,13 @@ module _ (s : Server) (store buffers : List ℕ) (connection : ℕ) (piece : Lis
   served_sound : SoundServer s → connection ≤ 7 → SoundServer (served_step s store buffers connection piece room).served.server
   unfolding served_step
   served_sound k c =
-      let step = take_step (assembler_at s connection) (buffer_at buffers connection) piece in
+      let step = joined_step (assembler_at s connection) (buffer_at buffers connection) piece in
       record {
         hub = found_sound s.hub store connection room step.buffer step.taken.found k.hub;
         each =
             λ at less.
             stored_at SoundAssembler s.assemblers connection at step.taken.assembler fresh_assembler
-            (take_sound (assembler_at s connection) (buffer_at buffers connection) piece (k.each connection (omega arith)))
+            (joined_sound (assembler_at s connection) (buffer_at buffers connection) piece)
             (k.each at less);
       }
 
@@ -83,10 +81,7 @@ module _ (s : Server) (store buffers : List ℕ) (connection : ℕ) (piece : Lis
   pub served_some : connection ≤ 7 → length buffers ≡ all_buffers → 0 < length piece
       → 0 < (served_step s store buffers connection piece room).served.used
   unfolding served_step
-  served_some c h some =
-      let at : buffer_size ≤ length (drop (connection * buffer_size) buffers) = rw length-drop (omega arith) in
-      used_some (assembler_at s connection) (buffer_at buffers connection) piece
-      (length-take-le buffer_size (drop (connection * buffer_size) buffers) at) some
+  served_some c h some = used_some (assembler_at s connection) (buffer_at buffers connection) piece some
 
 -- ---- the other events
 pub closed_sound : (s : Server) (connection : ℕ) → SoundServer s → SoundServer (closed_call s connection).server

@@ -6,13 +6,13 @@ use Rattle.laws.specs.Put.{over}
 use Rattle.lines.specs.declared.Found.{Found}
 use Rattle.lines.specs.declared.Found.TheVariants as found
 use Rattle.lines.specs.declared.Taken.{Taken}
-use Rattle.lines.specs.Take.{Step, take_step}
+use Rattle.lines.specs.Take.{Step, joined_step}
 use Rattle.connector.specs.declared.Answer.TheVariants as answer
 use Rattle.hub.specs.declared.Answered.{Answered}
 use Rattle.hub.specs.declared.Hub.{Hub}
 use Rattle.hub.specs.declared.HubChange.TheVariants as change
 use Rattle.hub.specs.Record.{applied}
-use Rattle.hub.specs.Line.{Outcome, leaving, deciding, refusal, line_step, overlong_step, bytes_of, Answers}
+use Rattle.hub.specs.Line.{Outcome, leaving, deciding, line_step, overlong_step, bytes_of, Answers}
 use Rattle.server.specs.declared.Server.{Server}
 use Rattle.server.specs.declared.PieceServed.{PieceServed}
 use Rattle.server.specs.Record.{all_buffers, buffer_size, server_of, assembler_at, buffer_at}
@@ -35,7 +35,6 @@ abbrev pub found_step : Hub → List ℕ → ℕ → ℕ → List ℕ → Found 
 found_step hub store connection room buffer found.Nothing = leaving (deciding answer.Taken change.Nothing) store
 found_step hub store connection room buffer (found.Line size) = line_step hub store connection (take size buffer) room
 found_step hub store connection room buffer found.Overlong = leaving (overlong_step connection room) store
-found_step hub store connection room buffer (found.Refused number) = leaving (refusal number) store
 
 -- the server with what the hub decided and the assembler after it, and the connection's buffer in its place again
 abbrev pub after_found : Server → List ℕ → ℕ → Step → Outcome → PieceStep
@@ -54,7 +53,7 @@ after_found s buffers connection step o =
 
 unfoldable pub served_step : Server → List ℕ → List ℕ → ℕ → List ℕ → ℕ → PieceStep
 served_step s store buffers connection piece room =
-    let step = take_step (assembler_at s connection) (buffer_at buffers connection) piece in
+    let step = joined_step (assembler_at s connection) (buffer_at buffers connection) piece in
     after_found s buffers connection step (found_step s.hub store connection room step.buffer step.taken.found)
 
 -- 102 "connection above 7; 101 lent reply buffer under 128 bytes"; 107 an assembler's buffer that is not 4,096 bytes, so all of them that are
@@ -90,4 +89,3 @@ abbrev pub Fits : Found → ℕ → ℕ → Type 0
 Fits found.Nothing room from = Unit
 Fits (found.Line size) room from = from + size ≤ room
 Fits found.Overlong room from = Unit
-Fits (found.Refused number) room from = Unit

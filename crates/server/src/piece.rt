@@ -1,6 +1,6 @@
 // A piece of a connection's stream: the assembler takes of it what ends a line, and the hub answers the line.
 ghost use Rattle.std.specs.Prelude.{◌≡◌, ◌+◌, ◌*◌, ◌≤◌, length, take, drop};
-ghost use Rattle.lines.specs.Take.{SoundAssembler, take_step};
+ghost use Rattle.lines.specs.Take.{SoundAssembler, joined_step};
 ghost use Rattle.hub.specs.Record.{SoundHub};
 ghost use Rattle.server.specs.Record.{SoundServer};
 ghost use Rattle.server.specs.Piece.{refused_piece, served_step, Serves, Joins, FoundAnswers, Fits};
@@ -22,14 +22,14 @@ pub fn refused(server: Server, number: u64) -> PieceServed
     }
 }
 
-// The assembler on its part of the buffers, which begins at a place.
+// The assembler on its part of the buffers, which begins at a place and has the size that no assembler refuses.
 fn joined(assembler: Assembler, buffers: &mut [u8], from: usize, piece: &[u8]) -> lines::Taken
     requires { SoundAssembler assembler × (from + 4096 ≤ length buffers.old) }
-    ensures { Joins (take_step assembler (take 4096 (drop from buffers.old)) piece.now)
+    ensures { Joins (joined_step assembler (take 4096 (drop from buffers.old)) piece.now)
         buffers.old from result buffers.new }
 {
     let to = from + Assembler::ROOM;
-    assembler.take(&mut buffers[from..to], piece)
+    assembler.take(&mut buffers[from..to], piece).unwrap()
 }
 
 // The hub's answer to what the assembler has found; the bytes of a whole line stand in the buffers from a place on.
@@ -57,11 +57,6 @@ fn answered(
             hub.line(store, connection as u64, &buffers[from..to], reply)
         }
         Found::Overlong => Hub::overlong_line(connection as u64, reply),
-        Found::Refused(number) => Answered {
-            answer: Answer::Refused(number),
-            change: HubChange::Nothing,
-            size: 0,
-        },
     }
 }
 

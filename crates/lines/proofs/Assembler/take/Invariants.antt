@@ -1,4 +1,4 @@
-use Prim.Native.Nat.{◌-◌, ◌≤◌}
+use Prim.Native.Nat.{◌≤◌}
 use mathlib.Core.Path.{◌≡◌}
 use lib.ListN.{length, drop}
 use Rattle.lines.proofs.Taking.{step_from}
@@ -6,8 +6,5 @@ use Rattle.lines.proofs.Assembler.take.Given as goal
 
 abbrev pub invariant-loop-i : goal.invariant-loop-i
 invariant-loop-i l =
-    (l.i ≤ length l.piece) × (l.size ≤ 4097) × (length l.buf ≡ 4096)
+    (l.size ≤ 4097) × (length l.buf ≡ 4096)
     × (step_from 0 l.initial.size l.initial.buf l.piece ≡ step_from l.i l.size l.buf (drop l.i l.piece))
-
-abbrev pub decreases-loop-i : goal.decreases-loop-i
-decreases-loop-i l = length l.piece - l.i

@@ -23,6 +23,3 @@ returns-in-Line c =
 
 pub returns-in-Overlong : goal.returns-in-Overlong
 returns-in-Overlong c = rw c.in-Overlong.is (record { answers = record { writes = c.overlong_line.ensures; kept = refl } })
-
-pub returns-in-Refused : goal.returns-in-Refused
-returns-in-Refused c = rw c.in-Refused.is (record { answers = record { writes = record { result = refl; laid = sym (over_nothing _ 0) }; kept = refl } })

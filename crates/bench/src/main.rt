@@ -21,46 +21,34 @@ fn flushed(rt: &impl Print, state: State, out: &[u8]) -> State
     ensures { SoundHub result.hub }
 {
     output::flush(rt, out, state.used);
-    let mut next = state;
-    next.used = 0;
-    next
+    State { used: 0, ..state }
 }
 
 // Puts bytes behind the line so far, as far as there is room; gives the length of what there is then.
 fn append(line: &mut [u8], size: usize, part: &[u8]) -> usize
     ensures { size ≤ result }
 {
-    let mut at = size;
-    let mut i = 0;
-    while i < part.len() {
-        if line.len() <= at {
-            return at;
-        }
-        line[at] = part[i];
-        at += 1;
-        i += 1;
+    if line.len() <= size {
+        return size;
     }
-    at
+    let end = size + part.len().min(line.len() - size);
+    line[size..end].copy_from_slice(&part[..end - size]);
+    end
 }
 
 // More of a line that is not ended.
 fn taken(begun: Begun, line: &mut [u8], part: &[u8]) -> Begun {
     let size = append(line, begun.size, part);
-    if size - begun.size < part.len() {
-        return Begun { size, over: true };
-    }
     Begun {
         size,
-        over: begun.over,
+        over: begun.over || size - begun.size < part.len(),
     }
 }
 
 // The rest of a line, which an LF ends. One that came whole is not copied.
 fn ended(begun: Begun, line: &mut [u8], part: &[u8]) -> Begun {
-    if begun.size == 0 {
-        if part.len() <= Begun::MOST_BYTES {
-            return begun;
-        }
+    if begun.size == 0 && part.len() <= Begun::MOST_BYTES {
+        return begun;
     }
     taken(begun, line, part)
 }
@@ -73,7 +61,8 @@ fn line_of<'a>(begun: Begun, part: &'a [u8], line: &'a [u8]) -> &'a [u8] {
     scan::front(line, begun.size)
 }
 
-// The bytes of a block. The hub is changed in its place, and not copied for a line.
+// The bytes of a block. The hub is changed in its place, and not copied for a line. The loop stays one from LF to LF: `split` would not say
+// whether an LF ended the last part.
 fn fed(
     rt: &impl Print,
     state: State,

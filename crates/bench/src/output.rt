@@ -13,10 +13,8 @@ pub fn with_room(rt: &impl Print, out: &[u8], used: usize) -> usize
     requires { 1024 ≤ length out.now }
     ensures { result + 1024 ≤ length out.now }
 {
-    if used < out.len() {
-        if script::turn::ROOM <= out.len() - used {
-            return used;
-        }
+    if used < out.len() && script::turn::ROOM <= out.len() - used {
+        return used;
     }
     flush(rt, out, used);
     0

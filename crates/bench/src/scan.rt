@@ -3,35 +3,28 @@ ghost use Rattle.std.specs.Prelude.{◌+◌, ◌≤◌, length};
 
 // The first bytes of a text.
 pub fn front(text: &[u8], size: usize) -> &[u8] {
-    if size <= text.len() {
-        &text[..size]
-    } else {
-        text
-    }
+    text.get(..size).unwrap_or(text)
 }
 
 // All of a text behind its first bytes.
 pub fn behind(text: &[u8], at: usize) -> &[u8] {
-    if at <= text.len() { &text[at..] } else { text }
-}
-
-// A byte as a number.
-fn wide(b: u8) -> u64 {
-    b as u64
+    text.get(at..).unwrap_or(text)
 }
 
 // Eight bytes of a block as one number, the first the lowest.
 fn eight(block: &[u8], at: usize) -> u64
     requires { at + 8 ≤ length block.now }
 {
-    wide(block[at])
-        | (wide(block[at + 1]) << 8)
-        | (wide(block[at + 2]) << 16)
-        | (wide(block[at + 3]) << 24)
-        | (wide(block[at + 4]) << 32)
-        | (wide(block[at + 5]) << 40)
-        | (wide(block[at + 6]) << 48)
-        | (wide(block[at + 7]) << 56)
+    u64::from_le_bytes([
+        block[at],
+        block[at + 1],
+        block[at + 2],
+        block[at + 3],
+        block[at + 4],
+        block[at + 5],
+        block[at + 6],
+        block[at + 7],
+    ])
 }
 
 // Of eight bytes, how many stand before the first LF, 8 where there is none: a byte that is LF becomes 0, and the lowest 0 is the
@@ -40,22 +33,15 @@ fn before_end(word: u64) -> usize
     ensures { result ≤ 8 }
 {
     let x = word ^ 0x0a0a0a0a0a0a0a0a;
-    let marks = std::num::wrapping_sub_u64(x, 0x0101010101010101) & !x & 0x8080808080808080;
-    let n = u64::trailing_zeros(marks) / 8;
-    if n < 8 { n as usize } else { 8 }
+    let marks = x.wrapping_sub(0x0101010101010101) & !x & 0x8080808080808080;
+    (marks.trailing_zeros() / 8) as usize
 }
 
-// Whether an LF is among 32 bytes of a block. It looks at all of them, so that the compiler can take many at once.
-fn has_end(block: &[u8], at: usize) -> bool
-    requires { at + 32 ≤ length block.now }
-{
+// Whether an LF is among some bytes. It looks at all of them, so that the compiler can take many at once.
+fn has_end(part: &[u8]) -> bool {
     let mut found = false;
-    let mut j = 0;
-    while j < 32 {
-        if block[at + j] == b'\n' {
-            found = true;
-        }
-        j += 1;
+    for &b in part {
+        found |= b == b'\n';
     }
     found
 }
@@ -65,14 +51,9 @@ fn near_end(block: &[u8], from: usize) -> usize
     requires { from ≤ length block.now }
     ensures { (from ≤ result) × (result ≤ length block.now) }
 {
-    let mut i = from;
-    while 32 <= block.len() - i {
-        if has_end(block, i) {
-            return i;
-        }
-        i += 32;
-    }
-    i
+    let rest = &block[from..];
+    let before = rest.chunks_exact(32).position(has_end);
+    from + 32 * before.unwrap_or(rest.len() / 32)
 }
 
 // The first LF from a place on, or, where no whole word of 8 bytes has one, the place behind these words.
@@ -81,12 +62,12 @@ fn end_in_words(block: &[u8], from: usize) -> usize
     ensures { (from ≤ result) × (result ≤ length block.now) }
 {
     let mut i = from;
-    while 8 <= block.len() - i {
-        let n = before_end(eight(block, i));
+    for word in block[from..].chunks_exact(8) {
+        let n = before_end(eight(word, 0));
+        i += n;
         if n < 8 {
-            return i + n;
+            break;
         }
-        i += 8;
     }
     i
 }
@@ -107,12 +88,7 @@ pub fn line_end(block: &[u8], from: usize) -> usize
             return from + 8 + m;
         }
     }
-    let mut i = end_in_words(block, near_end(block, from));
-    while i < block.len() {
-        if block[i] == b'\n' {
-            return i;
-        }
-        i += 1;
-    }
-    i
+    let at = end_in_words(block, near_end(block, from));
+    let rest = &block[at..];
+    at + rest.iter().position(|&b| b == b'\n').unwrap_or(rest.len())
 }

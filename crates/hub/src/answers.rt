@@ -7,6 +7,7 @@ use connector::{Owner, Stepped};
 use reply::Reply;
 use request::Place;
 
+// `says` and `fails` stay beside those of steps::answers, which make a Stepped: a trait for both records would be longer than the two.
 // A reply for the asker alone, and nothing changes.
 pub fn says(reply: Reply) -> Decided
     ensures { result ≡ says reply }
@@ -52,18 +53,12 @@ pub fn refused(number: u64) -> Answered
 pub fn placed(slot: usize, stepped: Stepped) -> Decided
     ensures { result ≡ placed slot stepped }
 {
-    let answer = stepped.answer;
-    let change = stepped.change;
-    match change {
-        None => Decided {
-            answer,
-            change: HubChange::Nothing,
-        },
-        Some(connector) => Decided {
-            answer,
-            change: HubChange::Connector { slot, connector },
-        },
-    }
+    let Stepped { answer, change } = stepped;
+    let change = match change {
+        None => HubChange::Nothing,
+        Some(connector) => HubChange::Connector { slot, connector },
+    };
+    Decided { answer, change }
 }
 
 // How many bytes the reply of an answer has, which it writes; none where there is no reply.
@@ -72,12 +67,8 @@ fn put_answer(answer: Answer, reply: &mut [u8]) -> usize
     ensures { Laid answer reply.old result reply.new }
 {
     match answer {
-        Answer::Refused(_) => 0,
-        Answer::Taken => 0,
-        Answer::Reply {
-            reply: said,
-            also: _,
-        } => reply::put_reply(reply, said),
+        Answer::Reply { reply: said, .. } => reply::put_reply(reply, said),
+        _ => 0,
     }
 }
 
@@ -86,8 +77,7 @@ pub fn written(decided: Decided, reply: &mut [u8]) -> Answered
     requires { 128 ≤ length reply.old }
     ensures { Writes decided reply.old result reply.new }
 {
-    let answer = decided.answer;
-    let change = decided.change;
+    let Decided { answer, change } = decided;
     let size = put_answer(answer, reply);
     Answered {
         answer,

@@ -8,6 +8,7 @@ ghost use Rattle.hub.specs.Calls.{all_carriers};
 use crate::{Hub, Store};
 use code::Code;
 use connector::Connector;
+use std::array;
 
 // The carrier of a connector whose part of the store begins at a place.
 fn carrier_in(c: Connector, store: &[u16], from: usize) -> bool
@@ -25,12 +26,5 @@ pub fn carriers_of(
     requires { SoundAll connectors }
     ensures { result ≡ all_carriers connectors store.now }
 {
-    let mut on = [false; Hub::CONNECTORS];
-    let mut slot: usize = 0;
-    while slot < Hub::CONNECTORS {
-        let c = connectors[slot];
-        on[slot] = carrier_in(c, store, slot * Code::MOST_COUNTS);
-        slot += 1;
-    }
-    on
+    array::from_fn(|slot| carrier_in(connectors[slot], store, slot * Code::MOST_COUNTS))
 }

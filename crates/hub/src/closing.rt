@@ -11,11 +11,5 @@ pub fn disowned(
 ) -> [Connector; Hub::CONNECTORS]
     ensures { result ≡ all_disowned connectors connection }
 {
-    let mut all = connectors;
-    let mut slot: usize = 0;
-    while slot < Hub::CONNECTORS {
-        all[slot] = connector::closing::disowned(all[slot], connection);
-        slot += 1;
-    }
-    all
+    connectors.map(|c| connector::closing::disowned(c, connection))
 }

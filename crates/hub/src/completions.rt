@@ -1,5 +1,5 @@
 // The completions of a wait.
-ghost use Rattle.std.specs.Prelude.{◌≡◌, []};
+ghost use Rattle.std.specs.Prelude.{◌≡◌, [], ltb, length, position, unwrap_or};
 ghost use Rattle.hub.specs.Completions.{completions_of, put_in};
 
 use crate::Hub;
@@ -14,16 +14,24 @@ pub struct Completions {
     pub items: [Completion; Hub::CONNECTORS],
 }
 
+// Where one more goes among some: behind those that are not later.
+fn place_in(items: &[Completion], x: Completion) -> usize
+    ensures { result ≡ unwrap_or (position (λ y. ltb x.moment.0 y.moment.0) items.now) (length items.now) }
+{
+    items
+        .iter()
+        .position(|y| x.moment.0 < y.moment.0)
+        .unwrap_or(items.len())
+}
+
 impl Completions {
     pub fn none() -> Self
         ensures { result ≡ completions_of [] }
     {
-        let moment = Micros(0);
-        let place = Place::nowhere();
         let none = Completion {
             owner: Owner::Nobody,
-            moment,
-            place,
+            moment: Micros(0),
+            place: Place::nowhere(),
             id: 0,
         };
         Completions {
@@ -36,26 +44,13 @@ impl Completions {
     pub fn with(self, x: Completion) -> Self
         ensures { result ≡ put_in self x }
     {
-        let count = self.count;
+        let Completions { count, mut items } = self;
         if Hub::CONNECTORS <= count {
             return self;
         }
-        let mut items = self.items;
-        let mut carried = x;
-        let mut placed = false;
-        let mut i: usize = 0;
-        while i < count {
-            let y = items[i];
-            if placed || carried.moment.0 < y.moment.0 {
-                items[i] = carried;
-                carried = y;
-                placed = true;
-                i += 1;
-            } else {
-                i += 1;
-            }
-        }
-        items[count] = carried;
+        let at = place_in(&items[..count], x);
+        items.copy_within(at..count, at + 1);
+        items[at] = x;
         Completions {
             count: count + 1,
             items,

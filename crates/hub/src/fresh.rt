@@ -4,16 +4,10 @@ ghost use Rattle.hub.specs.Record.{fresh_hub};
 
 use crate::Hub;
 use connector::Connector;
+use std::array;
 
 pub fn connectors() -> [Connector; Hub::CONNECTORS]
     ensures { result ≡ fresh_hub.connectors }
 {
-    let mut all = [Connector::fresh(request::mode::fresh_mode(1)); Hub::CONNECTORS];
-    let mut slot: usize = 0;
-    while slot < Hub::CONNECTORS {
-        let port = slot as u64 + 1;
-        all[slot] = Connector::fresh(request::mode::fresh_mode(port));
-        slot += 1;
-    }
-    all
+    array::from_fn(|slot| Connector::fresh(request::mode::fresh_mode(slot as u64 + 1)))
 }

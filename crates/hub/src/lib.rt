@@ -139,12 +139,10 @@ impl Hub {
                 hub: self,
             };
         }
-        let before = self.connectors;
-        let connectors = crate::closing::disowned(before, connection as u8);
-        let relays = self.relays;
+        let connectors = crate::closing::disowned(self.connectors, connection as u8);
         Moved {
             answer: Answer::Taken,
-            hub: Hub { connectors, relays },
+            hub: Hub { connectors, ..self },
         }
     }
 
@@ -160,15 +158,12 @@ impl Hub {
                 completions: Completions::none(),
             };
         }
-        let before = self.connectors;
-        let passed = crate::wait::passed(before, n);
+        let passed = crate::wait::passed(self.connectors, n);
         let connectors = passed.connectors;
-        let completions = passed.completions;
-        let relays = self.relays;
         Waited {
             answer: Answer::Taken,
-            hub: Hub { connectors, relays },
-            completions,
+            hub: Hub { connectors, ..self },
+            completions: passed.completions,
         }
     }
 
@@ -177,8 +172,7 @@ impl Hub {
         requires { SoundHub self }
         ensures { result ≡ carriers_of self store.now }
     {
-        let connectors = self.connectors;
-        crate::carriers::carriers_of(connectors, store)
+        crate::carriers::carriers_of(self.connectors, store)
     }
 
     // The level of each connector's lamp in percent, 0 where there is none. It changes nothing.
@@ -186,8 +180,7 @@ impl Hub {
         requires { SoundHub self }
         ensures { result ≡ levels_of self }
     {
-        let connectors = self.connectors;
-        crate::levels::levels_of(connectors)
+        crate::levels::levels_of(self.connectors)
     }
 
     // The hub with what a call changed of it.

@@ -22,20 +22,13 @@ pub fn passed(connectors: [Connector; Hub::CONNECTORS], n: Micros) -> AllPassed
 {
     let mut all = connectors;
     let mut completions = Completions::none();
-    let mut slot: usize = 0;
-    while slot < Hub::CONNECTORS {
-        match connector::pass::pass(all[slot], Place::connector(slot), n) {
-            Passing::Still => {
-                slot += 1;
-            }
-            Passing::Running(next) => {
-                all[slot] = next;
-                slot += 1;
-            }
+    for (slot, c) in all.iter_mut().enumerate() {
+        match connector::pass::pass(*c, Place::connector(slot), n) {
+            Passing::Still => {}
+            Passing::Running(next) => *c = next,
             Passing::Complete(next, completion) => {
-                all[slot] = next;
+                *c = next;
                 completions = completions.with(completion);
-                slot += 1;
             }
         }
     }

@@ -8,7 +8,6 @@ use lib.ListN.{length, take, get_or, length-append}
 use lib.Seq.{take-suc, take_all}
 use Rattle.laws.specs.Put.{Put}
 use Rattle.laws.proofs.Put.{over_front, nothing, put_length, then}
-use Rattle.laws.proofs.Slots.{made_of}
 use Rattle.lamp.specs.declared.Lamp.{Lamp}
 use Rattle.lamp.specs.Lamp.{SoundLamp, percent_of}
 use Rattle.lamp.proofs.Keeps.{level_most}
@@ -43,11 +42,6 @@ unfolding answer_frames
 answer_fits connection (answer.Refused number) = omega arith
 answer_fits connection answer.Taken = omega arith
 answer_fits connection (answer.Reply r also) = omega (arith, reply_length connection also (reply_text r), reply_fits r)
-
--- a byte for each of three
-pub each_is : {A : Type 0} (kind : ℕ) (f : A → ℕ) (l : List A) (d : A) → length l ≡ 3
-    → frame_of kind 0 (map f l) ≡ frame_of kind 0 (f (get_or l 0 d) ∷ f (get_or l 1 d) ∷ f (get_or l 2 d) ∷ [])
-each_is kind f l d three = ap (λ m. frame_of kind 0 (map f m)) (made_of l 3 d three)
 
 -- a level is 100 percent at most, so that its byte is the level itself
 level_byte : {x : Lamp} → SoundLamp x → low_byte (percent_of x) ≡ percent_of x

@@ -7,7 +7,7 @@ ghost use Rattle.hub.specs.Record.{InRange};
 ghost use Rattle.hub.specs.Line.{bytes_of};
 ghost use Rattle.frames.specs.Layout.{low_byte, two_bytes, four_bytes, frame_of};
 ghost use Rattle.output.specs.Output.{refusal_frame, reply_frames, answer_frames, mode_number, sending_bytes, connector_frame, change_frames};
-ghost use Rattle.output.specs.Output.{to_whom, completion_frame, wait_frames, bit, carriers_frame, levels_frame, not_due_frame, due_frame};
+ghost use Rattle.output.specs.Output.{to_whom, completion_frame, wait_frames, carriers_frame, levels_frame, not_due_frame, due_frame};
 
 use hub::{Answer, Completion, Completions, Connector, Hub, HubChange, Owner, Run};
 use pace::Micros;
@@ -56,12 +56,12 @@ fn put_head(out: &mut [u8], at: usize, kind: u8, connection: u8, size: u64) -> u
     put_two(out, b, size)
 }
 
-// The frame of a reply's bytes to a connection.
-fn put_to(out: &mut [u8], at: usize, connection: u8, s: &[u8]) -> usize
+// A whole frame.
+fn put_frame(out: &mut [u8], at: usize, kind: u8, connection: u8, s: &[u8]) -> usize
     requires { at + 4 + length s.now ≤ length out.old }
-    ensures { Put out.old at (frame_of 98 connection s.now) out.new result }
+    ensures { Put out.old at (frame_of kind connection s.now) out.new result }
 {
-    let a = put_head(out, at, b'b', connection, s.len() as u64);
+    let a = put_head(out, at, kind, connection, s.len() as u64);
     put_word(out, a, s)
 }
 
@@ -70,10 +70,10 @@ fn put_reply(out: &mut [u8], at: usize, connection: u8, also: Owner, s: &[u8]) -
     requires { at + 2 * (4 + length s.now) ≤ length out.old }
     ensures { Put out.old at (reply_frames connection also s.now) out.new result }
 {
-    let a = put_to(out, at, connection, s);
+    let a = put_frame(out, at, b'b', connection, s);
     match also {
         Owner::Nobody => a,
-        Owner::Connection(other) => put_to(out, a, other, s),
+        Owner::Connection(other) => put_frame(out, a, b'b', other, s),
     }
 }
 
@@ -98,6 +98,7 @@ pub fn put_answer(out: &mut [u8], at: usize, connection: u8, answer: Answer, s: 
     }
 }
 
+// The match stays: `mode as u8` would rest on the order in which Mode declares its cases, and the frame's numbers are the document's.
 fn mode_number(mode: Mode) -> u8
     ensures { result ≡ mode_number mode }
 {
@@ -121,7 +122,7 @@ fn put_sending(out: &mut [u8], at: usize, sending: Option<Run>) -> usize
         }
         Some(run) => {
             let a = put_byte(out, at, 1);
-            put_two(out, a, run.fields.id as u64)
+            put_two(out, a, u64::from(run.fields.id))
         }
     }
 }
@@ -131,15 +132,12 @@ fn put_connector(out: &mut [u8], at: usize, connection: u8, slot: usize, c: Conn
     requires { (slot ≤ 2) × (at + 11 ≤ length out.old) }
     ensures { Put out.old at (connector_frame connection slot c) out.new result }
 {
-    let mode = c.mode;
-    let sending = c.sending;
-    let lamp = c.lamp;
     let a = put_head(out, at, b's', connection, 7);
     let b = put_byte(out, a, 1);
     let d = put_byte(out, b, (slot + 1) as u8);
-    let e = put_byte(out, d, mode_number(mode));
-    let f = put_sending(out, e, sending);
-    put_byte(out, f, lamp.target)
+    let e = put_byte(out, d, mode_number(c.mode));
+    let f = put_sending(out, e, c.sending);
+    put_byte(out, f, c.lamp.target)
 }
 
 // How a relay is now.
@@ -147,10 +145,13 @@ fn put_relay(out: &mut [u8], at: usize, connection: u8, slot: usize, state: u64)
     requires { (slot ≤ 2) × (at + 7 ≤ length out.old) }
     ensures { Put out.old at (frame_of 115 connection (2 ∷ (slot + 1) ∷ low_byte state ∷ [])) out.new result }
 {
-    let a = put_head(out, at, b's', connection, 3);
-    let b = put_byte(out, a, 2);
-    let d = put_byte(out, b, (slot + 1) as u8);
-    put_byte(out, d, low_byte(state))
+    put_frame(
+        out,
+        at,
+        b's',
+        connection,
+        &[2, (slot + 1) as u8, low_byte(state)],
+    )
 }
 
 // What a line of a connection changed.
@@ -192,51 +193,31 @@ pub fn put_completion(out: &mut [u8], at: usize, completion: Completion) -> usiz
     ensures { Put out.old at (completion_frame completion) out.new result }
 {
     let mut line = [0u8; Reply::ROOM];
-    let owner = completion.owner;
-    let moment = completion.moment;
-    let place = completion.place;
-    let reply = Reply::Complete {
+    let Completion {
+        owner,
+        moment,
         place,
-        id: completion.id,
-    };
-    let size = reply::put_reply(&mut line, reply);
+        id,
+    } = completion;
+    let size = reply::put_reply(&mut line, Reply::Complete { place, id });
     put_completed(out, at, owner, moment, &line[..size])
 }
 
-// The completions of a wait.
+// The completions of a wait. The loop stays beside script::output's, which differs in what puts one, in the text and in the room: a function
+// over both would have to promise of its closure what `put_completion` promises, which is longer than the loop.
 pub fn put_completions(out: &mut [u8], at: usize, completions: Completions) -> usize
     requires { at + 408 ≤ length out.old }
     ensures { Put out.old at (wait_frames completions) out.new result }
 {
-    let count = completions.count;
-    let items = completions.items;
+    let Completions { count, items } = completions;
     let mut o = at;
-    let mut i: usize = 0;
-    while i < Hub::CONNECTORS {
+    for i in 0..Hub::CONNECTORS {
         if count <= i {
             return o;
         }
         o = put_completion(out, o, items[i]);
-        i += 1;
     }
     o
-}
-
-fn bit(on: bool) -> u8
-    ensures { result ≡ bit on }
-{
-    if on { 1 } else { 0 }
-}
-
-// A frame with a byte for each connector.
-fn put_each(out: &mut [u8], at: usize, kind: u8, first: u8, second: u8, third: u8) -> usize
-    requires { at + 7 ≤ length out.old }
-    ensures { Put out.old at (frame_of kind 0 (first ∷ second ∷ third ∷ [])) out.new result }
-{
-    let a = put_head(out, at, kind, 0, 3);
-    let b = put_byte(out, a, first);
-    let d = put_byte(out, b, second);
-    put_byte(out, d, third)
 }
 
 // Whether each connector's carrier is on.
@@ -244,7 +225,7 @@ pub fn put_carriers(out: &mut [u8], at: usize, on: [bool; Hub::CONNECTORS]) -> u
     requires { at + 7 ≤ length out.old }
     ensures { Put out.old at (carriers_frame on) out.new result }
 {
-    put_each(out, at, b'c', bit(on[0]), bit(on[1]), bit(on[2]))
+    put_frame(out, at, b'c', 0, &on.map(u8::from))
 }
 
 // The level of each connector's lamp in percent.
@@ -252,14 +233,7 @@ pub fn put_levels(out: &mut [u8], at: usize, levels: [u64; Hub::CONNECTORS]) -> 
     requires { at + 7 ≤ length out.old }
     ensures { Put out.old at (levels_frame levels) out.new result }
 {
-    put_each(
-        out,
-        at,
-        b'l',
-        low_byte(levels[0]),
-        low_byte(levels[1]),
-        low_byte(levels[2]),
-    )
+    put_frame(out, at, b'l', 0, &levels.map(low_byte))
 }
 
 // No completion is due.
@@ -267,7 +241,7 @@ pub fn put_not_due(out: &mut [u8], at: usize) -> usize
     requires { at + 4 ≤ length out.old }
     ensures { Put out.old at not_due_frame out.new result }
 {
-    put_head(out, at, b'd', 0, 0)
+    put_frame(out, at, b'd', 0, b"")
 }
 
 // The next completion is due in so many microseconds.

@@ -18,21 +18,15 @@ pub enum Input {
 fn figures_of(w: &[u8]) -> Option<u64>
     ensures { result ≡ figures_of w.now }
 {
-    if w.len() == 0 {
-        return None;
-    }
-    if 10 < w.len() {
+    if w.is_empty() || 10 < w.len() {
         return None;
     }
     let mut value: u64 = 0;
-    let mut i = 0;
-    while i < w.len() {
-        let b = w[i];
+    for &b in w {
         if !text::number::is_digit(b) {
             return None;
         }
-        value = value * 10 + (b - b'0') as u64;
-        i += 1;
+        value = value * 10 + u64::from(b - b'0');
     }
     Some(value)
 }
@@ -101,7 +95,7 @@ pub fn input_of(s: &[u8]) -> Input
     let b = text::field::byte_at(s, 0);
     if text::number::is_digit(b) {
         if text::field::byte_at(s, 1) == b' ' {
-            return Input::Line((b - b'0') as u64, 2);
+            return Input::Line(u64::from(b - b'0'), 2);
         }
     }
     words_of(s)

@@ -16,7 +16,7 @@ fn put_who(out: &mut [u8], at: usize, who: Owner) -> usize
 {
     match who {
         Owner::Nobody => put_word(out, at, b"-"),
-        Owner::Connection(number) => put_number(out, at, number as u64),
+        Owner::Connection(number) => put_number(out, at, u64::from(number)),
     }
 }
 
@@ -31,7 +31,7 @@ fn put_line(out: &mut [u8], at: usize, who: Owner, line: &[u8]) -> usize
     put_word(out, c, b"\n")
 }
 
-// A reply for somebody, line by line.
+// A reply for somebody, line by line. The loop stays one from CR to CR: `split` would also give what stands behind the last CR, which is no line.
 pub fn put_lines(out: &mut [u8], at: usize, who: Owner, text: &[u8]) -> usize
     requires { at + length (printed_reply (who_text who) text.now) ≤ length out.old }
     ensures { Put out.old at (printed_reply (who_text who) text.now) out.new result }
@@ -64,32 +64,32 @@ fn put_completion(out: &mut [u8], at: usize, completion: Completion) -> usize
     requires { at + 256 ≤ length out.old }
     ensures { Put out.old at (printed_completion completion) out.new result × (result ≤ at + 256) }
 {
-    let owner = completion.owner;
-    let place = completion.place;
-    let id = completion.id;
+    let Completion {
+        owner,
+        moment,
+        place,
+        id,
+    } = completion;
     let mut text = [0u8; Reply::ROOM];
     let size = reply::put_reply(&mut text, Reply::Complete { place, id });
     let a = put_word(out, at, b"@");
-    let b = put_number(out, a, completion.moment.0);
+    let b = put_number(out, a, moment.0);
     let c = put_word(out, b, b" ");
     put_lines(out, c, owner, &text[..size])
 }
 
-// The completions of a wait.
+// The completions of a wait. The loop stays beside that of the crate output, where the reason stands.
 pub fn put_completions(out: &mut [u8], at: usize, completions: Completions) -> usize
     requires { at + 768 ≤ length out.old }
     ensures { Put out.old at (printed_completions (take completions.count completions.items)) out.new result }
 {
-    let count = completions.count;
-    let items = completions.items;
+    let Completions { count, items } = completions;
     let mut o = at;
-    let mut i: usize = 0;
-    while i < Hub::CONNECTORS {
+    for i in 0..Hub::CONNECTORS {
         if count <= i {
             return o;
         }
         o = put_completion(out, o, items[i]);
-        i += 1;
     }
     o
 }

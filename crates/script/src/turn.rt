@@ -35,26 +35,7 @@ pub const ROOM: usize = 1024;
 fn is_one_line(reply: Reply) -> bool
     ensures { result ≡ is_one_line reply }
 {
-    match reply {
-        Reply::Fixed(fixed) => match fixed {
-            Fixed::Devices => false,
-            Fixed::Version => true,
-        },
-        Reply::Error {
-            number: _,
-            place: _,
-        } => true,
-        Reply::Mode { place: _, mode: _ } => true,
-        Reply::State { place: _, state: _ } => true,
-        Reply::Complete { place: _, id: _ } => true,
-        Reply::Busy { place: _, id: _ } => true,
-        Reply::Stopped { place: _ } => true,
-        Reply::Lamp {
-            place: _,
-            level: _,
-            target: _,
-        } => true,
-    }
+    !matches!(reply, Reply::Fixed(Fixed::Devices))
 }
 
 // A reply of several lines: its bytes are written aside, and each line is put for the asker.
@@ -126,8 +107,7 @@ fn put_call(out: &mut [u8], used: usize, answer: Answer) -> usize
 {
     match answer {
         Answer::Refused(number) => output::put_refusal(out, used, number),
-        Answer::Taken => used,
-        Answer::Reply { reply: _, also: _ } => used,
+        _ => used,
     }
 }
 
@@ -166,11 +146,9 @@ pub fn line(
 {
     let from = used + 2;
     let answered = answered(hub, store, connection, request, more, &mut out[from..]);
-    let answer = answered.answer;
-    let change = answered.change;
     Changed {
-        used: put_answer(out, used, connection, answer, answered.size),
-        change,
+        used: put_answer(out, used, connection, answered.answer, answered.size),
+        change: answered.change,
     }
 }
 
@@ -180,11 +158,9 @@ pub fn reading(hub: Hub, port: u64, value: u64, out: &mut [u8], used: usize) -> 
     ensures { Makes (reading_made hub port value) out.old used result out.new }
 {
     let decided = hub.reading(port, value);
-    let answer = decided.answer;
-    let change = decided.change;
     Passed {
-        used: put_call(out, used, answer),
-        hub: hub.applied(change),
+        used: put_call(out, used, decided.answer),
+        hub: hub.applied(decided.change),
     }
 }
 
@@ -194,11 +170,9 @@ pub fn closing(hub: Hub, connection: u64, out: &mut [u8], used: usize) -> Passed
     ensures { Makes (closing_made hub connection) out.old used result out.new }
 {
     let moved = hub.closed(connection);
-    let answer = moved.answer;
-    let next = moved.hub;
     Passed {
-        used: put_call(out, used, answer),
-        hub: next,
+        used: put_call(out, used, moved.answer),
+        hub: moved.hub,
     }
 }
 
@@ -208,13 +182,10 @@ pub fn waiting(hub: Hub, micros: u64, out: &mut [u8], used: usize) -> Passed
     ensures { Makes (waiting_made hub micros) out.old used result out.new }
 {
     let waited = hub.wait(Micros(micros));
-    let completions = waited.completions;
-    let answer = waited.answer;
-    let next = waited.hub;
-    let o = put_call(out, used, answer);
+    let o = put_call(out, used, waited.answer);
     Passed {
-        used: output::put_completions(out, o, completions),
-        hub: next,
+        used: output::put_completions(out, o, waited.completions),
+        hub: waited.hub,
     }
 }
 

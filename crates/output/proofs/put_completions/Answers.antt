@@ -24,12 +24,6 @@ bounds-items-i c = omega (arith, c.loop-i.invariant.long)
 pub put_completion-o-requires : goal.put_completion-o-requires
 put_completion-o-requires c = laying_room c.loop-i.invariant c.loop-i-test.true
 
-pub overflow_add-i : goal.overflow_add-i
-overflow_add-i c = omega arith
-
-pub loop-i-smaller : goal.loop-i-smaller
-loop-i-smaller c = omega arith
-
 pub loop-i-preserved : goal.loop-i-preserved
 loop-i-preserved c = laying_more c.loop-i.invariant no_completion c.loop-i-test.true c.if-count-i.false c.put_completion-o.ensures
 

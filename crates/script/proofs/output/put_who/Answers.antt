@@ -8,7 +8,7 @@ put_word-requires c = let h = rw c.in-Nobody.is at c.requires in omega (arith, h
 
 pub put_number-requires : goal.put_number-requires
 unfolding who_text
-put_number-requires c = let h = rw c.in-Connection.is at c.requires in omega (arith, h)
+put_number-requires c = let h = rw c.in-Connection.is at c.requires in rw c.from.ensures (omega (arith, h))
 
 pub returns-in-Nobody : goal.returns-in-Nobody
 unfolding who_text
@@ -16,4 +16,4 @@ returns-in-Nobody c = rw c.in-Nobody.is c.put_word.ensures
 
 pub returns-in-Connection : goal.returns-in-Connection
 unfolding who_text
-returns-in-Connection c = rw c.in-Connection.is c.put_number.ensures
+returns-in-Connection c = rw c.in-Connection.is (rw c.from.ensures at c.put_number.ensures)

@@ -1,3 +1,8 @@
+use Prim.Native.Nat.{ℕ}
+use mathlib.Core.Path.{◌≡◌, refl}
+use mathlib.Core.List.{[]}
+use Rattle.connector.specs.declared.Answer.{Answer}
+use Rattle.connector.specs.declared.Answer.TheVariants as answer
 use native.Mathlib.Omega.{arith}
 use Rattle.laws.proofs.Put.{nothing}
 use Rattle.script.specs.Output.{printed_call}
@@ -9,10 +14,12 @@ unfolding printed_call
 returns-in-Refused c =
     rw c.in-Refused.is (c.put_refusal.ensures, omega (arith, c.put_refusal.ensures.place, refusal_length c.in-Refused.number))
 
-pub returns-in-Taken : goal.returns-in-Taken
+-- nothing is printed where there is no refusal
+silent : (a : Answer) → ((number : ℕ) → a ≡ answer.Refused number → ⊥) → printed_call a ≡ []
 unfolding printed_call
-returns-in-Taken c = rw c.in-Taken.is (nothing _ _ (omega arith), omega arith)
+silent (answer.Refused number) other = absurd (other number refl)
+silent answer.Taken other = refl
+silent (answer.Reply r also) other = refl
 
-pub returns-in-Reply : goal.returns-in-Reply
-unfolding printed_call
-returns-in-Reply c = rw c.in-Reply.is (nothing _ _ (omega arith), omega arith)
+pub returns-in_default : goal.returns-in_default
+returns-in_default c = rw (silent c.args.answer c.in_default.not-Refused) (nothing _ _ (omega arith), omega arith)

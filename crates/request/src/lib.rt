@@ -78,7 +78,8 @@ pub enum Turn {
     Get,
 }
 
-// What a line is: a request of document 01's table, or a fault with its number and the place that it names.
+// What a line is: a request of document 01's table, or a fault with its number and the place that it names. The fault stays a case beside the
+// others, and this no Result: document 01 has a read request as an enum "whose cases carry the numbers, or the refusal".
 #[derive(Clone, Copy)]
 pub enum Request {
     Fault { number: u64, place: Place },
@@ -87,7 +88,9 @@ pub enum Request {
     Relay(Place, Turn),
 }
 
-mod address;
+pub mod address;
 pub mod mode;
 mod name;
 pub mod read;
+
+pub use crate::name::Name;

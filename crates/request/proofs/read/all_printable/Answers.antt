@@ -1,40 +1,31 @@
 use mathlib.Core.Path.{refl, sym, ◌∙◌}
 use native.Mathlib.Omega.{arith}
+use lib.ListN.{take, drop, length-drop}
+use Rattle.std.proofs.lemmas.List.{take-append-drop}
+use Rattle.std.specs.Slice.Iter.{chunks_exact_rest}
 use Rattle.request.specs.Request.{is_printable}
-use native.Mathlib.Nat.{le_refl}
-use Rattle.request.proofs.Covering.{piece_all, piece_first, piece_fails, piece_more, piece_last}
+use Rattle.request.proofs.Covering.{all_left, piece_more, piece_last}
 use Rattle.request.proofs.read.all_printable.Goals as goal
 
-pub returns-then-size-lt8 : goal.returns-then-size-lt8
-returns-then-size-lt8 c = c.run_printable.ensures ∙ piece_all is_printable c.args.s.now _ (le_refl _)
-
-pub returns-then-not-run_printable : goal.returns-then-not-run_printable
-returns-then-not-run_printable c = sym (piece_fails is_printable c.args.s.now 0 8 (sym c.run_printable-then-size-lt16.ensures ∙ c.if-not-run_printable.true))
-
-pub returns-then-size-lt16 : goal.returns-then-size-lt16
-returns-then-size-lt16 c =
+pub returns-then-run_printable : goal.returns-then-run_printable
+returns-then-run_printable c =
     let s = c.args.s.now in
-    piece_last is_printable s 8 8 _ (piece_first is_printable s 8 (sym c.run_printable-then-size-lt16.ensures ∙ c.if-not-run_printable.false))
-    c.run_printable-then-size-lt16-2.ensures (omega arith) (omega arith)
+    let front = piece_more is_printable s s (take 8 s) (drop 8 s) (all_left is_printable s) (sym (take-append-drop 8 s)) (sym c.if-run_printable.ensures) in
+    c.run_printable-then-run_printable.ensures ∙ piece_last is_printable s (drop 8 s) 8 front (omega (arith, length-drop 8 s)) (omega arith)
 
-pub loop-i-init : goal.loop-i-init
-loop-i-init c = (omega arith, refl, omega arith, refl)
-
-pub returns-then-not-run_printable-2 : goal.returns-then-not-run_printable-2
-returns-then-not-run_printable-2 c = sym (piece_fails is_printable c.args.s.now c.loop-i.i 16 (sym c.run_printable-in-loop-i.ensures ∙ c.if-not-run_printable-2.true))
-
-pub loop-i-preserved : goal.loop-i-preserved
-loop-i-preserved c =
-    let l = c.loop-i in (
-      omega arith,
+pub loop-piece-preserved : goal.loop-piece-preserved
+loop-piece-preserved c =
+    let inv = c.loop-piece.invariant in
+    let steps = c.in-Some.ensures.steps in (
+      steps.0 ∙ inv.0,
+      piece_more is_printable c.args.s.now _ _ _ inv.1 steps.1.0 (sym c.run_printable-in-loop-piece.ensures ∙ c.if-not-run_printable.false),
       refl,
-      l.invariant.2,
-      piece_more is_printable c.args.s.now l.i 16 l.invariant.3
-          (sym c.run_printable-in-loop-i.ensures ∙ c.if-not-run_printable-2.false),
+      inv.3,
     )
 
 pub returns : goal.returns
 returns c =
-    let s = c.args.s.now in
-    let l = c.loop-i in
-    piece_last is_printable s l.i 16 _ l.invariant.3 c.run_printable-2.ensures l.invariant.2 (omega arith)
+    let inv = c.loop-piece.invariant in
+    let steps = c.in-None.ensures.steps in
+    c.run_printable-2.ensures
+    ∙ piece_last is_printable c.args.s.now (chunks_exact_rest c.loop-piece.piece-iterator) 16 inv.1 (omega (arith, inv.0, steps.1.0)) inv.3

@@ -1,7 +1,6 @@
 use mathlib.Core.Path.{sym, ◌∙◌}
 use native.Mathlib.Omega.{arith}
 use Rattle.text.proofs.Limits.{good_most}
-use Rattle.request.specs.Request.{set_lamp_at}
 use Rattle.request.proofs.read.set_lamp_at.Goals as goal
 
 pub overflow_cast-target : goal.overflow_cast-target

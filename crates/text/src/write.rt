@@ -1,4 +1,4 @@
-// Words and decimals written into a lent buffer. Each gives the place behind what it wrote, and asks for room.
+// Bytes, words and decimals written into a lent buffer, one behind the other.
 ghost use Rattle.std.specs.Prelude.{[], ◌∷◌, ◌+◌, ◌≤◌, length};
 ghost use Rattle.laws.specs.Put.{Put};
 ghost use Rattle.words.specs.Decimal.{decimal};

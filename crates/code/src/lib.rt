@@ -2,7 +2,7 @@
 #![tactic(auto)]
 
 // What a code's text is: so many pairs, or its first fault. The counts of the pairs stand in an array beside.
-#[derive(Clone, Copy)]
+#[derive(Clone, Copy, PartialEq, Eq)]
 pub enum Code {
     Fault(u64),
     Pairs(usize),

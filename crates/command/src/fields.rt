@@ -25,6 +25,7 @@ pub fn fields_at(s: &[u8], at: usize) -> Result<(Fields, usize), u64>
     if offset % 2 == 0 {
         return Err(7);
     }
+    // The casts stay, no plainer as try_from: field_within has judged these numbers, so that its Err could not come (good_most).
     let fields = Fields {
         id: id as u32,
         freq: freq as u32,

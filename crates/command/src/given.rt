@@ -5,7 +5,7 @@ ghost use Rattle.command.specs.Read.{CommandInto};
 ghost use Rattle.command.specs.Given.{place_within, given_within, counts_within, taken_as, EachFits, command_given};
 
 use code::Code;
-use request::Place;
+use request::{Name, Place};
 use words::Fields;
 
 // The fields of a command as they are given.
@@ -25,44 +25,30 @@ pub struct Command {
 }
 
 // Whether a place is a connector's.
+#[tactic(auto, unfolding(crate::specs::Given::place_within, request::specs::Address::address_fault))]
 fn place_within(place: Place) -> bool
     ensures { result ≡ place_within place }
 {
-    if place.m != Place::INFRARED {
-        return false;
-    }
-    if place.port < 1 {
-        return false;
-    }
-    place.port <= Place::CONNECTORS as u64
+    request::address::address_fault(Name::SendIr, place).is_ok()
 }
 
 // Whether every field is within its limits.
+// It stays beside the composer's fields_fault, no plainer from there: 004 to 007 would stand below the writer, which knows 106 (command_given).
+#[tactic(auto, unfolding(crate::specs::Given::given_within))]
 fn given_within(f: Given) -> bool
     ensures { result ≡ given_within f }
 {
-    if Code::MOST_ID < f.id {
-        return false;
-    }
-    if f.freq < Code::LEAST_FREQ {
-        return false;
-    }
-    if Code::MOST_FREQ < f.freq {
-        return false;
-    }
-    if f.repeat < 1 {
-        return false;
-    }
-    if Code::MOST_REPEAT < f.repeat {
-        return false;
-    }
-    if Code::MOST_OFFSET < f.offset {
-        return false;
-    }
-    f.offset % 2 != 0
+    f.id <= Code::MOST_ID
+        && Code::LEAST_FREQ <= f.freq
+        && f.freq <= Code::MOST_FREQ
+        && 1 <= f.repeat
+        && f.repeat <= Code::MOST_REPEAT
+        && f.offset <= Code::MOST_OFFSET
+        && f.offset % 2 != 0
 }
 
 // Whether counts are 1 to 260 pairs, each count legal.
+// It stays beside the composer's counts_fault, no plainer from there: 009, 010 and 020 would stand below the writer (command_given).
 fn counts_within(freq: u64, given: &[u64]) -> bool
     ensures { result ≡ counts_within freq given.now }
 {
@@ -90,6 +76,7 @@ fn put_counts(given: &[u64], counts: &mut [u16])
 }
 
 // The fields as they are taken.
+// It stays a function, no plainer as TryFrom, which would judge again what given_within has judged: taken requires that it has.
 fn taken(f: Given) -> Fields
     requires { given_within f ≡ true }
     ensures { result ≡ taken_as f }

@@ -1,16 +1,19 @@
 -- Laws of what is wrong with a request: a number out of a range, what holds where nothing is wrong, and the loop over the counts.
 use Prim.Native.Nat.{ℕ, ◌≤◌, ◌<◌}
 use mathlib.Core.Path.{◌≡◌, refl, sym, ◌∙◌}
-use mathlib.Core.Bool.{Bool, true, false, cond, not}
+use mathlib.Core.Bool.{Bool, true, false, cond, not, ◌||◌}
 use native.Mathlib.Omega.{arith}
-use borrow.Author.Tests.{lt-leb, eqb-true, eqb-false, eq-eqb, not-false}
-use lib.Dec.{leb, eqb}
+use borrow.Author.Tests.{lt-leb, ltb-true, ltb-false, eqb-true, eqb-false, eq-eqb, not-false}
+use lib.Dec.{ltb, leb, eqb}
 use Rattle.std.proofs.Common.{Result, Ok, Err}
 use Rattle.std.specs.Result.{result_and}
+use Rattle.std.proofs.lemmas.Bool.Decides.{nat_tests}
 use Rattle.laws.specs.Checks.{between}
-use Rattle.laws.proofs.Choice.{by_test, clash, and_false, between_least, between_most}
+use Rattle.laws.proofs.Choice.{by_test, clash, and_false, between_true, between_least, between_most}
 use Rattle.words.specs.Places.{ports_of}
 use Rattle.request.specs.declared.Place.{Place}
+use Rattle.request.specs.declared.name.Name.{Name}
+use Rattle.request.specs.Address.{has_module, address_fault}
 use Rattle.composer.specs.Fault.{judged, or_else, place_fault}
 
 -- ---- a number out of a range
@@ -85,3 +88,23 @@ place_within_law least most a e =
       least_port = between_least 1 (ports_of a.m) a.port port;
       most_port = omega (arith, three_ports a.m, between_most 1 (ports_of a.m) a.port port);
     }
+
+-- ---- an address, as the hub judges it for a request that takes so many modules
+module _ (name : Name) (least most : ℕ) (a : Place) where
+  pub address_judged : has_module name a.m ≡ between least most a.m → address_fault name a ≡ judged (place_fault least most a)
+  unfolding address_fault place_fault
+  address_judged e =
+      rw e
+      (by_test (between least most a.m) (λ t. rw t
+      (by_test (ltb a.port 1)
+      (λ l. rw (l, between_low 1 (ports_of a.m) a.port (ltb-true a.port 1 l)))
+      (λ l. by_test (ltb (ports_of a.m) a.port)
+      (λ k. rw (l, k, between_high 1 (ports_of a.m) a.port (ltb-true (ports_of a.m) a.port k)))
+      (λ k. rw (l, k, between_true 1 (ports_of a.m) a.port (ltb-false a.port 1 l) (ltb-false (ports_of a.m) a.port k))))))
+      (λ t. rw t))
+
+pub one_module : (k m : ℕ) → eqb m k ≡ between k k m
+one_module k m = grind (arith, nat_tests)
+
+pub two_modules : (m : ℕ) → eqb m 1 || eqb m 2 ≡ between 1 2 m
+two_modules m = grind (arith, nat_tests)

@@ -1,59 +1,28 @@
 // What is wrong with a request: the number that the hub would answer, in document 01's order.
 ghost use Rattle.std.specs.Prelude.{◌≡◌};
-ghost use Rattle.composer.specs.Fault.{judged, place_fault, fields_fault, counts_fault, sendir_fault, lamp_fault, wish_fault};
+ghost use Rattle.composer.specs.Fault.{judged, fields_fault, counts_fault, sendir_fault, lamp_fault, wish_fault};
 
 use crate::Wish;
 use code::Code;
 use command::given::{Command, Given};
-use request::{Ask, Place};
-
-// 002 for a module out of those that a request takes, 003 for a port that the module does not have.
-fn place_fault(place: Place, least: u64, most: u64) -> Result<(), u64>
-    ensures { result ≡ judged (place_fault least most place) }
-{
-    if place.m < least {
-        return Err(2);
-    }
-    if most < place.m {
-        return Err(2);
-    }
-    if place.port < 1 {
-        return Err(3);
-    }
-    let ports = if place.m == Place::INFRARED {
-        Place::CONNECTORS
-    } else {
-        Place::RELAYS
-    };
-    if (ports as u64) < place.port {
-        return Err(3);
-    }
-    Ok(())
-}
+use request::address::address_fault;
+use request::{Ask, Name};
 
 // 004 to 007
+#[tactic(auto, unfolding(crate::specs::Fault::fields_fault))]
 fn fields_fault(f: Given) -> Result<(), u64>
     ensures { result ≡ judged (fields_fault f) }
 {
     if Code::MOST_ID < f.id {
         return Err(4);
     }
-    if f.freq < Code::LEAST_FREQ {
+    if f.freq < Code::LEAST_FREQ || Code::MOST_FREQ < f.freq {
         return Err(5);
     }
-    if Code::MOST_FREQ < f.freq {
-        return Err(5);
-    }
-    if f.repeat < 1 {
+    if f.repeat < 1 || Code::MOST_REPEAT < f.repeat {
         return Err(6);
     }
-    if Code::MOST_REPEAT < f.repeat {
-        return Err(6);
-    }
-    if Code::MOST_OFFSET < f.offset {
-        return Err(7);
-    }
-    if f.offset % 2 == 0 {
+    if Code::MOST_OFFSET < f.offset || f.offset % 2 == 0 {
         return Err(7);
     }
     Ok(())
@@ -85,7 +54,7 @@ fn counts_fault(freq: u64, counts: &[u64]) -> Result<(), u64>
 pub fn sendir_fault(command: Command, counts: &[u64]) -> Result<(), u64>
     ensures { result ≡ judged (sendir_fault command counts.now) }
 {
-    place_fault(command.place, Place::INFRARED, Place::INFRARED)?;
+    address_fault(Name::SendIr, command.place)?;
     let f = command.fields;
     fields_fault(f)?;
     counts_fault(f.freq, counts)?;
@@ -96,16 +65,11 @@ pub fn sendir_fault(command: Command, counts: &[u64]) -> Result<(), u64>
 }
 
 // 023 for a lamp's target or ramp.
+#[tactic(auto, unfolding(crate::specs::Fault::lamp_fault))]
 fn lamp_fault(target: u64, ramp: u64) -> Result<(), u64>
     ensures { result ≡ judged (lamp_fault target ramp) }
 {
-    if target < 1 {
-        return Err(23);
-    }
-    if Ask::MOST_TARGET < target {
-        return Err(23);
-    }
-    if Ask::MOST_RAMP < ramp {
+    if target < 1 || Ask::MOST_TARGET < target || Ask::MOST_RAMP < ramp {
         return Err(23);
     }
     Ok(())
@@ -117,26 +81,26 @@ pub fn wish_fault(wish: Wish) -> Result<(), u64>
     match wish {
         Wish::Fixed(_) => Ok(()),
         Wish::SetMode(place, mode) => {
-            place_fault(place, Place::INFRARED, Place::INFRARED)?;
+            address_fault(Name::SetIr, place)?;
             if request::mode::may_have(place.port, mode) {
                 return Ok(());
             }
             Err(14)
         }
-        Wish::GetMode(place) => place_fault(place, Place::INFRARED, Place::INFRARED),
+        Wish::GetMode(place) => address_fault(Name::GetIr, place),
         Wish::SetState(place, state) => {
-            place_fault(place, Place::RELAY, Place::RELAY)?;
+            address_fault(Name::SetState, place)?;
             if 1 < state {
                 return Err(23);
             }
             Ok(())
         }
-        Wish::GetState(place) => place_fault(place, Place::INFRARED, Place::RELAY),
-        Wish::Stop(place) => place_fault(place, Place::INFRARED, Place::INFRARED),
+        Wish::GetState(place) => address_fault(Name::GetState, place),
+        Wish::Stop(place) => address_fault(Name::StopIr, place),
         Wish::SetLamp(place, target, ramp) => {
-            place_fault(place, Place::INFRARED, Place::INFRARED)?;
+            address_fault(Name::SetLamp, place)?;
             lamp_fault(target, ramp)
         }
-        Wish::GetLamp(place) => place_fault(place, Place::INFRARED, Place::INFRARED),
+        Wish::GetLamp(place) => address_fault(Name::GetLamp, place),
     }
 }

@@ -53,7 +53,8 @@ impl Connector {
 }
 
 // What a call is answered: it is refused with a number, taken with nothing to say, or answered with a reply for the asker and
-// perhaps for an owner too.
+// perhaps for an owner too. It stays an enum of its own, and no Result: document 01 has a hub's answer as one, whose cases carry the
+// numbers, or the refusal.
 #[derive(Clone, Copy)]
 pub enum Answer {
     Refused(u64),

@@ -8,7 +8,7 @@ use pace::{Micros, Passed};
 use request::Place;
 
 // What a wait makes of a connector: it stays as it is, it goes on with its transmission or its lamp with its ramp, or the transmission is
-// complete and it is idle then.
+// complete and it is idle then. It stays an enum of its own: an Option or a Result has two outcomes.
 #[derive(Clone, Copy)]
 pub enum Passing {
     Still,

@@ -25,11 +25,9 @@ fn closed(server: Server, connection: u8, out: &mut [u8], at: usize) -> Done
     ensures { Does (closed_of server connection) out.old at result out.new }
 {
     let served = server.closed(connection as u64);
-    let next = served.server;
-    let answer = served.answer;
     Done {
-        server: next,
-        end: put_answer(out, at, connection, answer, b""),
+        server: served.server,
+        end: put_answer(out, at, connection, served.answer, b""),
     }
 }
 
@@ -38,11 +36,9 @@ fn reading(server: Server, port: u8, value: u8, out: &mut [u8], at: usize) -> Do
     ensures { Does (reading_of server port value) out.old at result out.new }
 {
     let served = server.reading(port as u64, value as u64);
-    let next = served.server;
-    let answer = served.answer;
     Done {
-        server: next,
-        end: put_answer(out, at, port, answer, b""),
+        server: served.server,
+        end: put_answer(out, at, port, served.answer, b""),
     }
 }
 
@@ -51,13 +47,10 @@ fn waited(server: Server, connection: u8, n: Micros, out: &mut [u8], at: usize) 
     ensures { Does (wait_of server connection n.0) out.old at result out.new }
 {
     let served = server.wait(n);
-    let next = served.server;
-    let answer = served.answer;
-    let completions = served.completions;
-    let a = put_answer(out, at, connection, answer, b"");
+    let a = put_answer(out, at, connection, served.answer, b"");
     Done {
-        server: next,
-        end: put_completions(out, a, completions),
+        server: served.server,
+        end: put_completions(out, a, served.completions),
     }
 }
 

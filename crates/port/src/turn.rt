@@ -40,10 +40,7 @@ pub struct Turned {
 fn front(block: &[u8], size: usize) -> &[u8]
     ensures { result.now ≡ take size block.now }
 {
-    if size <= block.len() {
-        return &block[..size];
-    }
-    block
+    block.get(..size).unwrap_or(block)
 }
 
 // Bytes of heads and numbers, and the event that they complete.
@@ -60,12 +57,10 @@ fn heads(
 {
     let read = frame.read(block);
     let next = read.frame;
-    let event = read.event;
-    let done = event::answered(server, store, event, out, at);
-    let after = done.server;
+    let done = event::answered(server, store, read.event, out, at);
     Turned {
         state: State {
-            server: after,
+            server: done.server,
             frame: next,
         },
         used: read.used,

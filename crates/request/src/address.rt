@@ -61,7 +61,7 @@ fn is_short(s: &[u8], at: usize) -> bool
 }
 
 // The address at a place, a place of the hub, and where its field ends. Nearly every one is short.
-pub fn address_at(s: &[u8], at: usize) -> Option<(Place, usize)>
+pub(crate) fn address_at(s: &[u8], at: usize) -> Option<(Place, usize)>
     ensures { result ≡ address_at s.now at }
 {
     if !is_short(s, at) {

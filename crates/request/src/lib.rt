@@ -88,7 +88,9 @@ pub enum Request {
     Relay(Place, Turn),
 }
 
-mod address;
+pub mod address;
 pub mod mode;
 mod name;
 pub mod read;
+
+pub use crate::name::Name;

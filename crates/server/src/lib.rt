@@ -98,13 +98,14 @@ impl Server {
             };
         }
         let moved = self.hub.closed(connection);
-        let hub = moved.hub;
-        let answer = moved.answer;
         let mut assemblers = self.assemblers;
         assemblers[connection as usize] = Assembler::fresh();
         Served {
-            server: Server { hub, assemblers },
-            answer,
+            server: Server {
+                hub: moved.hub,
+                assemblers,
+            },
+            answer: moved.answer,
         }
     }
 
@@ -113,13 +114,10 @@ impl Server {
         ensures { result ≡ reading_call self port value }
     {
         let decided = self.hub.reading(port, value);
-        let answer = decided.answer;
-        let change = decided.change;
-        let hub = self.hub.applied(change);
-        let assemblers = self.assemblers;
+        let hub = self.hub.applied(decided.change);
         Served {
-            server: Server { hub, assemblers },
-            answer,
+            server: Server { hub, ..self },
+            answer: decided.answer,
         }
     }
 
@@ -130,13 +128,10 @@ impl Server {
     {
         let waited = self.hub.wait(n);
         let hub = waited.hub;
-        let answer = waited.answer;
-        let completions = waited.completions;
-        let assemblers = self.assemblers;
         WaitServed {
-            server: Server { hub, assemblers },
-            answer,
-            completions,
+            server: Server { hub, ..self },
+            answer: waited.answer,
+            completions: waited.completions,
         }
     }
 

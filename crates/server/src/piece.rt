@@ -78,20 +78,17 @@ pub fn served(
     let found = taken.found;
     let hub = server.hub;
     let answered = answered(hub, store, buffers, from, connection, found, reply);
-    let answer = answered.answer;
-    let change = answered.change;
-    let assembler = taken.assembler;
     let mut assemblers = server.assemblers;
-    assemblers[connection] = assembler;
-    let next = hub.applied(change);
+    assemblers[connection] = taken.assembler;
+    let next = hub.applied(answered.change);
     PieceServed {
         server: Server {
             hub: next,
             assemblers,
         },
         used: taken.used,
-        answer,
-        change,
+        answer: answered.answer,
+        change: answered.change,
         size: answered.size,
     }
 }

@@ -7,8 +7,9 @@ use Rattle.text.specs.declared.write.Out.{Out}
 abbrev pub Room : Out → ℕ → Type 0
 Room out size = out.at + size ≤ length out.buf.now
 
--- a text was written: it is laid over what the buffer held from the place on, and the place is behind it; the buffer is the same one, and as long
+-- a text was written: it is laid over what the buffer held from the place on, and the place is behind it; the buffer is the same one, at its address, and as long
 pub record Appended (old new : Out) (text : List ℕ) : Type 0 where
   pub put : Put old.buf.now old.at text new.buf.now new.at
   pub size : length new.buf.now ≡ length old.buf.now
   pub same : new.buf.ghost_name ≡ old.buf.ghost_name
+  pub stays : new.buf.ref_ptr ≡ old.buf.ref_ptr

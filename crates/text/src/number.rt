@@ -3,7 +3,8 @@ ghost use Rattle.std.specs.Prelude.{◌≡◌, ◌≤◌, ◌<◌};
 ghost use Rattle.words.specs.Digits.{is_digit};
 ghost use Rattle.text.specs.Number.{grown, found_number, number_at};
 
-// What stands at a place: no digit, a run of too many, or a number, the latter two with the place behind them.
+// What stands at a place: no digit, a run of too many, or a number, the latter two with the place behind them. It stays an enum of three
+// cases: a run of too many is digits all the same, as `part_at` of an address needs to know.
 #[derive(Clone, Copy)]
 pub enum Number {
     Missing,

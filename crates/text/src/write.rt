@@ -1,4 +1,4 @@
-// Words and decimals written into a lent buffer. Each gives the place behind what it wrote, and asks for room.
+// Bytes, words and decimals written into a lent buffer, one behind the other.
 ghost use Rattle.std.specs.Prelude.{[], ◌∷◌, ◌+◌, ◌≤◌, length};
 ghost use Rattle.laws.specs.Put.{Put};
 ghost use Rattle.words.specs.Decimal.{decimal};
@@ -30,7 +30,8 @@ impl<'a> Out<'a> {
         self.at = end;
     }
 
-    // A number, without leading zeros, digit by digit.
+    // A number, without leading zeros, digit by digit. The recursion stays: the last digit is found first, so that a loop would have to count
+    // the digits before it, or turn them round behind it.
     fn digits(&mut self, n: u64)
         requires { Room self.old (length (decimal n)) }
         ensures { Appended self.old self.new (decimal n) }
@@ -59,33 +60,17 @@ pub fn put_word(buf: &mut [u8], at: usize, w: &[u8]) -> usize
     requires { at + length w.now ≤ length buf.old }
     ensures { Put buf.old at w.now buf.new result }
 {
-    let end = at + w.len();
-    buf[at..end].copy_from_slice(w);
-    end
+    let mut out = Out { buf, at };
+    out.word(w);
+    out.at
 }
 
-// A number, without leading zeros, digit by digit.
-fn put_digits(buf: &mut [u8], at: usize, n: u64) -> usize
-    requires { at + length (decimal n) ≤ length buf.old }
-    ensures { Put buf.old at (decimal n) buf.new result }
-{
-    if n < 10 {
-        buf[at] = 48 + (n % 10) as u8;
-        return at + 1;
-    }
-    let p = put_digits(buf, at, n / 10);
-    buf[p] = 48 + (n % 10) as u8;
-    p + 1
-}
-
-// A number, without leading zeros. One digit, as most numbers of a reply have, is put without a call.
+// A number, without leading zeros.
 pub fn put_number(buf: &mut [u8], at: usize, n: u64) -> usize
     requires { at + length (decimal n) ≤ length buf.old }
     ensures { Put buf.old at (decimal n) buf.new result }
 {
-    if n < 10 {
-        buf[at] = 48 + (n % 10) as u8;
-        return at + 1;
-    }
-    put_digits(buf, at, n)
+    let mut out = Out { buf, at };
+    out.number(n);
+    out.at
 }

@@ -11,25 +11,12 @@ fn say_carrier(rt: &impl Print, on: bool) {
     }
 }
 
-// Whether every connector but the first has its carrier off.
-fn others_off(carriers: [bool; Hub::CONNECTORS]) -> bool {
-    let mut slot: usize = 1;
-    while slot < Hub::CONNECTORS {
-        if carriers[slot] {
-            return false;
-        }
-        slot += 1;
-    }
-    true
-}
-
 // Connector 1's carrier is as expected; the others transmit nothing.
 fn carrier_vector(rt: &impl Print, line: &[u8], micros: u64, expected: bool) {
     let mut store = [0u16; Hub::COUNTS];
     let started = sending::sent(Hub::fresh(), &mut store, line);
     let waited = started.wait(Micros(micros));
-    let later = waited.hub;
-    let carriers = later.carriers(&store);
+    let carriers = waited.hub.carriers(&store);
     let got = carriers[0];
     say::text(rt, b"carrier ");
     say::number(rt, micros);
@@ -39,37 +26,47 @@ fn carrier_vector(rt: &impl Print, line: &[u8], micros: u64, expected: bool) {
     say_carrier(rt, expected);
     say::text(rt, b", got ");
     say_carrier(rt, got);
-    say::verdict(rt, got == expected && others_off(carriers));
+    say::verdict(rt, got == expected && !carriers[1..].contains(&true));
 }
 
 // At 40,000 Hz a period lasts 25 µs: on for 34, off for 48, on for 24, off for 960 periods, and the second copy from the third count on.
 fn whole_periods(rt: &impl Print) {
     let line = b"sendir,1:1,7,40000,2,3,34,48,24,960";
-    carrier_vector(rt, line, 0, true);
-    carrier_vector(rt, line, 849, true);
-    carrier_vector(rt, line, 850, false);
-    carrier_vector(rt, line, 2049, false);
-    carrier_vector(rt, line, 2050, true);
-    carrier_vector(rt, line, 2649, true);
-    carrier_vector(rt, line, 2650, false);
-    carrier_vector(rt, line, 26649, false);
-    carrier_vector(rt, line, 26650, true);
-    carrier_vector(rt, line, 27249, true);
-    carrier_vector(rt, line, 27250, false);
-    carrier_vector(rt, line, 51250, false);
+    let cases = [
+        (0, true),
+        (849, true),
+        (850, false),
+        (2049, false),
+        (2050, true),
+        (2649, true),
+        (2650, false),
+        (26649, false),
+        (26650, true),
+        (27249, true),
+        (27250, false),
+        (51250, false),
+    ];
+    for (micros, expected) in cases {
+        carrier_vector(rt, line, micros, expected);
+    }
 }
 
 // At 38,000 Hz four periods last 105 5/19 µs: the edges lie at 105.26, 210.53, 315.79 and 421.05 µs.
 fn broken_periods(rt: &impl Print) {
     let line = b"sendir,1:1,7,38000,2,1,4,4";
-    carrier_vector(rt, line, 105, true);
-    carrier_vector(rt, line, 106, false);
-    carrier_vector(rt, line, 210, false);
-    carrier_vector(rt, line, 211, true);
-    carrier_vector(rt, line, 315, true);
-    carrier_vector(rt, line, 316, false);
-    carrier_vector(rt, line, 421, false);
-    carrier_vector(rt, line, 422, false);
+    let cases = [
+        (105, true),
+        (106, false),
+        (210, false),
+        (211, true),
+        (315, true),
+        (316, false),
+        (421, false),
+        (422, false),
+    ];
+    for (micros, expected) in cases {
+        carrier_vector(rt, line, micros, expected);
+    }
 }
 
 pub fn vectors(rt: &impl Print) {

@@ -12,8 +12,7 @@ fn later(hub: Hub, line: &[u8], micros: u64) -> Hub
 {
     let mut store = [0u16; Hub::COUNTS];
     let told = sending::sent(hub, &mut store, line);
-    let waited = told.wait(Micros(micros));
-    waited.hub
+    told.wait(Micros(micros)).hub
 }
 
 // A fresh hub whose connector 1 is a lamp: it is dark.
@@ -39,22 +38,24 @@ fn lamp_vector(rt: &impl Print, hub: Hub, line: &[u8], micros: u64, level: u64, 
     say::number(rt, levels[0]);
     say::text(rt, b"; ");
     let replied = sending::replies(rt, later, b"get_LED_LIGHTING,1:1", reply);
-    say::verdict(
-        rt,
-        replied && levels[0] == level && levels[1] == 0 && levels[2] == 0,
-    );
+    say::verdict(rt, replied && levels == [level, 0, 0]);
 }
 
 // Ramp 3 moves 3 percent in each 100,000 µs, exactly: 4 percent lie at 133,333 1/3 µs, and 100 at 3,333,333 1/3.
 fn rising(rt: &impl Print, dark: Hub, line: &[u8])
     requires { SoundHub dark }
 {
-    lamp_vector(rt, dark, line, 0, 0, b"LED_LIGHTING,1:1,0,100");
-    lamp_vector(rt, dark, line, 100000, 3, b"LED_LIGHTING,1:1,3,100");
-    lamp_vector(rt, dark, line, 133333, 3, b"LED_LIGHTING,1:1,3,100");
-    lamp_vector(rt, dark, line, 133334, 4, b"LED_LIGHTING,1:1,4,100");
-    lamp_vector(rt, dark, line, 3333333, 99, b"LED_LIGHTING,1:1,99,100");
-    lamp_vector(rt, dark, line, 3333334, 100, b"LED_LIGHTING,1:1,100,100");
+    let cases: [(u64, u64, &[u8]); 6] = [
+        (0, 0, b"LED_LIGHTING,1:1,0,100"),
+        (100000, 3, b"LED_LIGHTING,1:1,3,100"),
+        (133333, 3, b"LED_LIGHTING,1:1,3,100"),
+        (133334, 4, b"LED_LIGHTING,1:1,4,100"),
+        (3333333, 99, b"LED_LIGHTING,1:1,99,100"),
+        (3333334, 100, b"LED_LIGHTING,1:1,100,100"),
+    ];
+    for (micros, level, reply) in cases {
+        lamp_vector(rt, dark, line, micros, level, reply);
+    }
 }
 
 // A falling level is rounded down too, and a new target starts from the exact level, 3.99999 percent.

@@ -3,15 +3,7 @@ use crate::{say, sending};
 use hub::Hub;
 use pace::Micros;
 
-// Whether it ended at the expected moment, so long after it was sent again.
-fn ended(again: u64, left: u64, expected: u64) -> bool {
-    if expected < again {
-        return false;
-    }
-    expected - again == left
-}
-
-// Nothing is complete when it is sent again, and in the end one transmission is.
+// Nothing is complete when it is sent again, and in the end one transmission is: at the expected moment, so long after it was sent again.
 fn renewal_vector(rt: &impl Print, line: &[u8], again: u64, expected: u64) {
     let mut store = [0u16; Hub::COUNTS];
     let started = sending::sent(Hub::fresh(), &mut store, line);
@@ -33,14 +25,16 @@ fn renewal_vector(rt: &impl Print, line: &[u8], again: u64, expected: u64) {
     say::number(rt, first.moment.0);
     say::verdict(
         rt,
-        before.count == 0 && behind.count == 1 && ended(again, first.moment.0, expected),
+        before.count == 0
+            && behind.count == 1
+            && expected.checked_sub(again) == Some(first.moment.0),
     );
 }
 
 // The first copy ends at 26,650 µs and each further one lasts 24,600: in the first copy nothing is added, at its end one copy is.
 pub fn vectors(rt: &impl Print) {
     let line = b"sendir,1:1,7,40000,2,3,34,48,24,960";
-    renewal_vector(rt, line, 1, 51250);
-    renewal_vector(rt, line, 26649, 51250);
-    renewal_vector(rt, line, 26650, 75850);
+    for (again, expected) in [(1, 51250), (26649, 51250), (26650, 75850)] {
+        renewal_vector(rt, line, again, expected);
+    }
 }

@@ -1,4 +1,5 @@
-// What is printed. What cannot be written is let go, as where it went nobody reads.
+// What is printed. What cannot be written is let go, as where it went nobody reads. `text` stays beside `print!`: most of what a row prints are
+// bytes that the hub was given or gave, and what `print!` takes for a `{}` is a str.
 
 pub fn text(rt: &impl Print, bytes: &[u8]) {
     let _ = rt.write_all(bytes);

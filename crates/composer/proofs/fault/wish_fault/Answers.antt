@@ -1,38 +1,40 @@
+use mathlib.Core.Path.{◌∙◌}
 use borrow.Author.Tests.{lt-ltb, le-ltb}
 use Rattle.std.proofs.lemmas.Result.{err_from_is_err_and}
 use Rattle.composer.specs.Fault.{wish_fault}
-use Rattle.composer.proofs.Faults.{found_first, none_first}
+use Rattle.request.specs.declared.name.Name.TheVariants.{SetIr, GetIr, SetState, GetState, StopIr, SetLamp, GetLamp}
+use Rattle.composer.proofs.Faults.{found_first, none_first, address_judged, one_module, two_modules}
 use Rattle.composer.proofs.fault.wish_fault.Goals as goal
 
-pub returns-in_err-place_fault-in-SetMode : goal.returns-in_err-place_fault-in-SetMode
+pub returns-in_err-address_fault-in-SetMode : goal.returns-in_err-address_fault-in-SetMode
 unfolding wish_fault
-returns-in_err-place_fault-in-SetMode c =
+returns-in_err-address_fault-in-SetMode c =
     let p = err_from_is_err_and c.from_residual.result c.from_residual.ensures.1 in
-    rw (p.1, p.2, c.in-SetMode.is) (found_first _ c.place_fault.ensures _ c.in_err-place_fault-in-SetMode.was)
+    rw (p.1, p.2, c.in-SetMode.is) (found_first _ (c.address_fault.ensures ∙ address_judged SetIr 1 1 _ (one_module 1 _)) _ c.in_err-address_fault-in-SetMode.was)
 
 pub returns-then-may_have : goal.returns-then-may_have
 unfolding wish_fault
 returns-then-may_have c =
-    rw (c.in-SetMode.is, none_first _ c.place_fault.ensures _ c.in_ok-place_fault-in-SetMode.was, ← c.may_have.ensures, c.if-may_have.true)
+    rw (c.in-SetMode.is, none_first _ (c.address_fault.ensures ∙ address_judged SetIr 1 1 _ (one_module 1 _)) _ c.in_ok-address_fault-in-SetMode.was, ← c.may_have.ensures, c.if-may_have.true)
 
-pub returns-in_err-place_fault-in-SetState : goal.returns-in_err-place_fault-in-SetState
+pub returns-in_err-address_fault-in-SetState : goal.returns-in_err-address_fault-in-SetState
 unfolding wish_fault
-returns-in_err-place_fault-in-SetState c =
-    let out = c.from_residual-in_err-place_fault-in-SetState in
+returns-in_err-address_fault-in-SetState c =
+    let out = c.from_residual-in_err-address_fault-in-SetState in
     let p = err_from_is_err_and out.result out.ensures.1 in
-    rw (p.1, p.2, c.in-SetState.is) (found_first _ c.place_fault-in-SetState.ensures _ c.in_err-place_fault-in-SetState.was)
+    rw (p.1, p.2, c.in-SetState.is) (found_first _ (c.address_fault-in-SetState.ensures ∙ address_judged SetState 2 2 _ (one_module 2 _)) _ c.in_err-address_fault-in-SetState.was)
 
 pub returns-then-state-gt1 : goal.returns-then-state-gt1
 unfolding wish_fault
 returns-then-state-gt1 c =
-    rw (c.in-SetState.is, none_first _ c.place_fault-in-SetState.ensures _ c.in_ok-place_fault-in-SetState.was, lt-ltb 1 _ c.if-state-gt1.true)
+    rw (c.in-SetState.is, none_first _ (c.address_fault-in-SetState.ensures ∙ address_judged SetState 2 2 _ (one_module 2 _)) _ c.in_ok-address_fault-in-SetState.was, lt-ltb 1 _ c.if-state-gt1.true)
 
-pub returns-in_err-place_fault-in-SetLamp : goal.returns-in_err-place_fault-in-SetLamp
+pub returns-in_err-address_fault-in-SetLamp : goal.returns-in_err-address_fault-in-SetLamp
 unfolding wish_fault
-returns-in_err-place_fault-in-SetLamp c =
-    let out = c.from_residual-in_err-place_fault-in-SetLamp in
+returns-in_err-address_fault-in-SetLamp c =
+    let out = c.from_residual-in_err-address_fault-in-SetLamp in
     let p = err_from_is_err_and out.result out.ensures.1 in
-    rw (p.1, p.2, c.in-SetLamp.is) (found_first _ c.place_fault-in-SetLamp.ensures _ c.in_err-place_fault-in-SetLamp.was)
+    rw (p.1, p.2, c.in-SetLamp.is) (found_first _ (c.address_fault-in-SetLamp.ensures ∙ address_judged SetLamp 1 1 _ (one_module 1 _)) _ c.in_err-address_fault-in-SetLamp.was)
 
 pub returns-in-Fixed : goal.returns-in-Fixed
 unfolding wish_fault
@@ -41,30 +43,30 @@ returns-in-Fixed c = rw c.in-Fixed.is
 pub returns-else-may_have : goal.returns-else-may_have
 unfolding wish_fault
 returns-else-may_have c =
-    rw (c.in-SetMode.is, none_first _ c.place_fault.ensures _ c.in_ok-place_fault-in-SetMode.was, ← c.may_have.ensures, c.if-may_have.false)
+    rw (c.in-SetMode.is, none_first _ (c.address_fault.ensures ∙ address_judged SetIr 1 1 _ (one_module 1 _)) _ c.in_ok-address_fault-in-SetMode.was, ← c.may_have.ensures, c.if-may_have.false)
 
 pub returns-in-GetMode : goal.returns-in-GetMode
 unfolding wish_fault
-returns-in-GetMode c = rw c.in-GetMode.is c.place_fault-in-GetMode.ensures
+returns-in-GetMode c = rw c.in-GetMode.is (c.address_fault-in-GetMode.ensures ∙ address_judged GetIr 1 1 _ (one_module 1 _))
 
 pub returns-else-state-gt1 : goal.returns-else-state-gt1
 unfolding wish_fault
 returns-else-state-gt1 c =
-    rw (c.in-SetState.is, none_first _ c.place_fault-in-SetState.ensures _ c.in_ok-place_fault-in-SetState.was, le-ltb 1 _ c.if-state-gt1.false)
+    rw (c.in-SetState.is, none_first _ (c.address_fault-in-SetState.ensures ∙ address_judged SetState 2 2 _ (one_module 2 _)) _ c.in_ok-address_fault-in-SetState.was, le-ltb 1 _ c.if-state-gt1.false)
 
 pub returns-in-GetState : goal.returns-in-GetState
 unfolding wish_fault
-returns-in-GetState c = rw c.in-GetState.is c.place_fault-in-GetState.ensures
+returns-in-GetState c = rw c.in-GetState.is (c.address_fault-in-GetState.ensures ∙ address_judged GetState 1 2 _ (two_modules c.in-GetState.place.m))
 
 pub returns-in-Stop : goal.returns-in-Stop
 unfolding wish_fault
-returns-in-Stop c = rw c.in-Stop.is c.place_fault-in-Stop.ensures
+returns-in-Stop c = rw c.in-Stop.is (c.address_fault-in-Stop.ensures ∙ address_judged StopIr 1 1 _ (one_module 1 _))
 
-pub returns-in_ok-place_fault-in-SetLamp : goal.returns-in_ok-place_fault-in-SetLamp
+pub returns-in_ok-address_fault-in-SetLamp : goal.returns-in_ok-address_fault-in-SetLamp
 unfolding wish_fault
-returns-in_ok-place_fault-in-SetLamp c =
-    rw (c.in-SetLamp.is, none_first _ c.place_fault-in-SetLamp.ensures _ c.in_ok-place_fault-in-SetLamp.was) c.lamp_fault.ensures
+returns-in_ok-address_fault-in-SetLamp c =
+    rw (c.in-SetLamp.is, none_first _ (c.address_fault-in-SetLamp.ensures ∙ address_judged SetLamp 1 1 _ (one_module 1 _)) _ c.in_ok-address_fault-in-SetLamp.was) c.lamp_fault.ensures
 
 pub returns-in-GetLamp : goal.returns-in-GetLamp
 unfolding wish_fault
-returns-in-GetLamp c = rw c.in-GetLamp.is c.place_fault-in-GetLamp.ensures
+returns-in-GetLamp c = rw c.in-GetLamp.is (c.address_fault-in-GetLamp.ensures ∙ address_judged GetLamp 1 1 _ (one_module 1 _))

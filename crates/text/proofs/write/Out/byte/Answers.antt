@@ -7,4 +7,4 @@ use Rattle.text.proofs.write.Out.byte.Goals as goal
 pub returns : goal.returns
 returns c =
     let out = c.args.self.now in
-    record { put = byte _ _ _ (omega (arith, c.requires)); size = length-set out.buf.now out.at c.args.b; same = refl }
+    record { put = byte _ _ _ (omega (arith, c.requires)); size = length-set out.buf.now out.at c.args.b; same = refl; stays = refl }

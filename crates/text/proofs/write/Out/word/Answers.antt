@@ -9,4 +9,4 @@ returns c =
     let out = c.args.self.now in
     let laid = part_over out.buf.now c.args.w.now _ out.at _ c.copy_from_slice.ensures.after (omega arith) in
     let put : Put out.buf.now out.at c.args.w.now _ _ = record { place = refl; room = c.requires; laid = laid } in
-    record { put = put; size = put_length put; same = refl }
+    record { put = put; size = put_length put; same = refl; stays = refl }

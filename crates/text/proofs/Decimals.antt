@@ -7,10 +7,12 @@ use native.Mathlib.Nat.{pow-succ'}
 use native.Mathlib.Omega.{arith}
 use borrow.Author.Tests.{lt-ltb, le-ltb, ltb-true, ltb-false, le-leb}
 use lib.Dec.{ltb}
-use lib.ListN.{length, length-append}
+use lib.ListN.{length, set, length-append}
 use Rattle.laws.specs.Lists.{all}
+use Rattle.laws.specs.Put.{Put}
 use Rattle.laws.proofs.Choice.{by_test, cond_case}
 use Rattle.laws.proofs.Lists.{all_append}
+use Rattle.laws.proofs.Put.{put_length, then, byte}
 use Rattle.words.specs.Digits.{is_digit, worth, Spells}
 use Rattle.words.specs.Decimal.{decimal_in, decimal}
 
@@ -36,6 +38,13 @@ decimal_step n l h =
 
 pub decimal_longer : (n : ℕ) → 10 ≤ n → n < 2 ^ 64 → length (decimal n) ≡ length (decimal (n / 10)) + 1
 decimal_longer n l h = ap length (decimal_step n l h) ∙ length-append (decimal (n / 10)) ((48 + n % 10) ∷ [])
+
+-- the store of the last digit
+pub put_last : {b b₁ : List ℕ} {at m n : ℕ} → 10 ≤ n → n < 2 ^ 64 → Put b at (decimal (n / 10)) b₁ m → at + length (decimal n) ≤ length b
+    → Put b at (decimal n) (set b₁ m (48 + n % 10)) (m + 1)
+put_last {b} {b₁} {at} {m} {n} l h p r =
+    let k : m < length b₁ = omega (arith, p.place, put_length p, decimal_longer n l h) in
+    rw (decimal_step n l h) (then p (byte b₁ m (48 + n % 10) k))
 
 -- ---- their digits
 

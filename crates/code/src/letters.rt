@@ -23,30 +23,22 @@ impl Letters {
     }
 }
 
+#[tactic(auto, unfolding(words::specs::Pairs::same_pair))]
 pub fn same(p: Pair, q: Pair) -> bool
     ensures { result ≡ same_pair p q }
 {
-    if p.on == q.on { p.off == q.off } else { false }
+    p == q
 }
 
 // The place of a pair among those that have a letter, or their number where it has none.
 pub fn place_of(letters: Letters, p: Pair) -> usize
     ensures { result ≡ place_of p (held letters) }
 {
-    let count = letters.count;
-    let pairs = letters.pairs;
-    let mut j = 0;
-    while j < count {
-        if Code::LETTERS <= j {
-            return j;
-        }
-        let q = pairs[j];
-        if same(q, p) {
-            return j;
-        }
-        j += 1;
-    }
-    j
+    let count = letters.count.min(Code::LETTERS);
+    letters.pairs[..count]
+        .iter()
+        .position(|&q| same(q, p))
+        .unwrap_or(count)
 }
 
 // The letters after one pair more.

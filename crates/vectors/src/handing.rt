@@ -1,6 +1,6 @@
 // Codes handed out pair by pair, through a reader of the text.
 use crate::say;
-use reader::{Piece, Progress};
+use reader::Progress;
 use words::Pair;
 
 fn say_pair(rt: &impl Print, on: u64, off: u64) {
@@ -60,19 +60,17 @@ fn hand_all(rt: &impl Print, text: &[u8], counts: &[u64], fault: u64) -> bool {
     loop {
         let n = progress.count;
         let handed = reader::hand_out(progress, text, at);
-        let piece = handed.piece;
-        match piece {
-            Piece::End => {
+        match handed.piece {
+            Ok(None) => {
                 return is_last(rt, counts, fault, n, 0) && ok;
             }
-            Piece::Fault(number) => {
+            Err(number) => {
                 return is_last(rt, counts, fault, n, number) && ok;
             }
-            Piece::Pair(p) => {
+            Ok(Some(p)) => {
                 say_pair(rt, p.on as u64, p.off as u64);
                 ok = is_pair(counts, n, p) && ok;
-                let later = handed.progress;
-                progress = later;
+                progress = handed.progress;
                 at = handed.at;
             }
         }

@@ -5,6 +5,7 @@ use mathlib.Core.Bool.{true, false}
 use mathlib.Core.List.{List, []}
 use borrow.Author.Tests.{lt-ltb, le-ltb, ltb-true}
 use lib.ListN.{length}
+use Rattle.std.proofs.Common.{Result, Ok, Err}
 use Rattle.laws.proofs.Choice.{cond_case, clash}
 use Rattle.laws.proofs.Storing.{stores_stored}
 use Rattle.words.specs.declared.Pair.{Pair}
@@ -16,20 +17,19 @@ use Rattle.code.specs.Limits.{offset_within}
 use Rattle.code.specs.Read.{Reading, pairs, fault, read_code, found, ReadInto}
 use Rattle.code.proofs.Accepted.{accepted}
 use Rattle.code.proofs.Answers.{read_pairs, read_fault}
-use Rattle.command.specs.declared.fields.FieldsRead.{FieldsRead}
-use Rattle.command.specs.declared.fields.FieldsRead.TheVariants as fields
-use Rattle.command.specs.declared.read.CommandRead.TheVariants.{Fault, Sent}
 use Rattle.command.specs.Fields.{ReadWithin, fields_at}
 use Rattle.command.specs.Read.{CommandReading, sent, faulty, code_read, code_at, fields_read, command_at, command_of, found_in, CommandInto, Accepts}
 use Rattle.command.proofs.Accepted.{fields_within}
 
 -- ---- what an answer says of the reading
-pub fault_read : (r : CommandReading) {n : ℕ} → Fault n ≡ command_of r → r ≡ faulty n (found_in r)
+pub fault_read : (r : CommandReading) {n : ℕ} → Err n ≡ command_of r → r ≡ faulty n (found_in r)
 fault_read (sent f ps) e = clash (cc)
 fault_read (faulty number found) e = cc
 
-pub sent_read : (r : CommandReading) {f : Fields} {n : ℕ} → Sent f n ≡ command_of r → (r ≡ sent f (found_in r)) × (n ≡ length (found_in r))
-sent_read (sent f ps) e = (cc, cc)
+pub sent_read : (r : CommandReading) {f : Fields} {n : ℕ} → Ok (f, n) ≡ command_of r → (r ≡ sent f (found_in r)) × (n ≡ length (found_in r))
+sent_read (sent g ps) {f} {n} e =
+    let same : (f, n) ≡ (g, length ps) = cc in
+    (ap (λ (x : Fields × ℕ). sent x.0 ps) (sym same), ap (λ (x : Fields × ℕ). x.1) same)
 sent_read (faulty number found) e = clash (cc)
 
 -- ---- the answer of code_at, by what was read
@@ -41,7 +41,7 @@ module _ (f : Fields) (s : List ℕ) (at : ℕ) {before after : List ℕ} {x : C
       subst (λ (m : ℕ). m ≤ 260) e.1 (accepted f.freq s at _ e.0).most
 
   pub code_sent : x ≡ code.Pairs n → f.offset < 2 * n
-      → CommandInto (code_at f s at) before (Sent f n) after
+      → CommandInto (code_at f s at) before (Ok (f, n)) after
   unfolding code_at
   code_sent q h =
       let e = read_pairs (read_code f.freq s at) (sym r.result ∙ q) in
@@ -51,7 +51,7 @@ module _ (f : Fields) (s : List ℕ) (at : ℕ) {before after : List ℕ} {x : C
       record { result = rw (is, e.1); kept = rw is r.kept; front = rw is r.front }
 
   pub code_beyond : x ≡ code.Pairs n → 2 * n ≤ f.offset
-      → CommandInto (code_at f s at) before (Fault 7) after
+      → CommandInto (code_at f s at) before (Err 7) after
   unfolding code_at
   code_beyond q h =
       let e = read_pairs (read_code f.freq s at) (sym r.result ∙ q) in
@@ -60,7 +60,7 @@ module _ (f : Fields) (s : List ℕ) (at : ℕ) {before after : List ℕ} {x : C
       let is : code_read f (read_code f.freq s at) ≡ faulty 7 ps = ap (code_read f) e.0 ∙ rw beyond in
       record { result = rw is; kept = rw is r.kept; front = rw is r.front }
 
-  pub code_fault_law : x ≡ code.Fault n → CommandInto (code_at f s at) before (Fault n) after
+  pub code_fault_law : x ≡ code.Fault n → CommandInto (code_at f s at) before (Err n) after
   unfolding code_at
   code_fault_law q =
       let e = read_fault (read_code f.freq s at) (sym r.result ∙ q) in
@@ -68,7 +68,7 @@ module _ (f : Fields) (s : List ℕ) (at : ℕ) {before after : List ℕ} {x : C
       record { result = rw is; kept = rw is r.kept; front = rw is r.front }
 
 -- ---- where the fields are faulty nothing is found
-pub nothing_found : (number : ℕ) (before : List ℕ) → CommandInto (faulty number []) before (Fault number) before
+pub nothing_found : (number : ℕ) (before : List ℕ) → CommandInto (faulty number []) before (Err number) before
 unfolding counts_in
 nothing_found number before = record { result = refl; kept = stores_stored before 0 []; front = refl }
 
@@ -77,7 +77,7 @@ abbrev CommandWithin : CommandReading → Type 0
 CommandWithin (sent f ps) = Accepts f ps
 CommandWithin (faulty number ps) = Unit {0}
 
-code_within : (f : Fields) (s : List ℕ) (at : ℕ) → ReadWithin (fields.Good f at) → CommandWithin (code_at f s at)
+code_within : (f : Fields) (s : List ℕ) (at : ℕ) → ReadWithin (Ok (f, at)) → CommandWithin (code_at f s at)
 unfolding code_at
 code_within f s at w = go (read_code f.freq s at) refl
   where
@@ -91,9 +91,9 @@ every_command : (s : List ℕ) (at : ℕ) → CommandWithin (command_at s at)
 unfolding command_at
 every_command s at = go (fields_at s at) (fields_within s at)
   where
-    go : (x : FieldsRead) → ReadWithin x → CommandWithin (fields_read s x)
-    go (fields.Fault number) w = tt
-    go (fields.Good f next) w = code_within f s next w
+    go : (x : Result (Fields × ℕ) ℕ) → ReadWithin x → CommandWithin (fields_read s x)
+    go (Err number) w = tt
+    go (Ok (f, next)) w = code_within f s next w
 
 pub command_within : (s : List ℕ) (at : ℕ) (f : Fields) (ps : List Pair) → command_at s at ≡ sent f ps → Accepts f ps
 command_within s at f ps e = subst CommandWithin e (every_command s at)

@@ -1,11 +1,13 @@
 -- Laws of the fields that are given, of the loops over counts, and of the pairs that they are.
 use Prim.Native.Nat.{ℕ, ◌*◌, ◌/◌, ◌%◌, ◌≤◌}
 use mathlib.Core.Path.{◌≡◌, refl, sym, ap, ◌∙◌}
-use mathlib.Core.Bool.{true, not}
+use mathlib.Core.Bool.{Bool, true, not}
 use mathlib.Core.List.{List, [], ◌∷◌}
 use native.Mathlib.Omega.{arith}
 use borrow.Author.Tests.{ltb-false, eqb-true, eqb-false, not-true, not-false}
 use lib.Dec.{ltb, eqb}
+use Rattle.std.proofs.Common.{Ok}
+use Rattle.std.specs.List.{list_all}
 use lib.ListN.{length}
 use lib.Seq.{sets}
 use Rattle.laws.specs.Lists.{all}
@@ -18,7 +20,6 @@ use Rattle.words.specs.Pairs.{counts_of, pairs_of}
 use Rattle.words.proofs.Pairs.{counts_stored}
 use Rattle.code.specs.Limits.{legal, most_id, least_freq, most_freq, most_repeat, most_offset}
 use Rattle.code.proofs.Smallest.{legal_is}
-use Rattle.command.specs.declared.read.CommandRead.TheVariants.{Sent}
 use Rattle.command.specs.Read.{sent, CommandInto}
 use Rattle.command.specs.declared.given.Given.{Given}
 use Rattle.command.specs.Fields.{FieldsWithin}
@@ -70,6 +71,11 @@ counts_in_law freq given e =
       allowed = c.1;
     }
 
+-- a test of every element, as std says it
+pub list_all_law : {A : Type 0} (p : A → Bool) (l : List A) → list_all p l ≡ all p l
+list_all_law p [] = refl
+list_all_law p (b ∷ l) = rw (list_all_law p l)
+
 pub each_fits : {freq : ℕ} {given : List ℕ} → CountsIn freq given → EachFits given
 each_fits {freq} {given} c i h = let l = legal_is (all_at (legal freq) given i 0 c.allowed h) in omega (arith, l.high)
 
@@ -85,14 +91,14 @@ counts_back (a ∷ b ∷ l) e = rw (counts_back l (omega arith))
 
 -- what is given, once it is stored
 pub given_into : {freq : ℕ} (given before after : List ℕ) (f : Fields) → CountsIn freq given → length before ≡ 520 → after ≡ sets before 0 given
-    → CommandInto (sent f (pairs_of given)) before (Sent f (length given / 2)) after
+    → CommandInto (sent f (pairs_of given)) before (Ok (f, length given / 2)) after
 given_into given before after f c size e =
     let two = pairs_length given c.even in
     let half : length given / 2 ≡ length (pairs_of given) = omega arith in
     let back = counts_back given c.even in
     let kept : after ≡ stored_in before 0 (counts_of (pairs_of given)) = e ∙ stores_stored before 0 given ∙ ap (stored_in before 0) (sym back) in
     record {
-      result = ap (Sent f) half;
+      result = ap (λ (n : ℕ). Ok (f, n)) half;
       kept = kept;
       front = rw kept (counts_stored before (pairs_of given) (omega (arith, c.most)));
     }

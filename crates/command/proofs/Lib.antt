@@ -1,3 +1,4 @@
+pub mod Needing
 pub mod Sending
 pub mod Capping
 pub mod Accepted

@@ -3,48 +3,27 @@ ghost use Rattle.std.specs.Prelude.{◌≡◌};
 ghost use Rattle.command.specs.Fields.{capped, fields_at};
 
 use code::Code;
-use text::field::Field;
 use words::Fields;
-
-// A sendir behind its address: the first fault of its fields, or the fields and where the code begins.
-#[derive(Clone, Copy)]
-pub enum FieldsRead {
-    Fault(u64),
-    Good(Fields, usize),
-}
 
 pub fn capped(repeat: u64) -> u64
     ensures { result ≡ capped repeat }
 {
-    if Code::REPEAT_CAP < repeat {
-        Code::REPEAT_CAP
-    } else {
-        repeat
-    }
+    repeat.min(Code::REPEAT_CAP)
 }
 
-// The fields that begin at a place.
-pub fn fields_at(s: &[u8], at: usize) -> FieldsRead
+// The fields that begin at a place and where the code begins, or the number of their first fault.
+pub fn fields_at(s: &[u8], at: usize) -> Result<(Fields, usize), u64>
     ensures { result ≡ fields_at s.now at }
 {
-    let Field::Good(id, a) = text::field::field_within(s, at, 0, Code::MOST_ID) else {
-        return FieldsRead::Fault(4);
-    };
+    let (id, a) = text::field::field_within(s, at, 0, Code::MOST_ID).ok_or(4u64)?;
     let b = text::field::after_comma(s, a);
-    let Field::Good(freq, c) = text::field::field_within(s, b, Code::LEAST_FREQ, Code::MOST_FREQ)
-    else {
-        return FieldsRead::Fault(5);
-    };
+    let (freq, c) = text::field::field_within(s, b, Code::LEAST_FREQ, Code::MOST_FREQ).ok_or(5u64)?;
     let d = text::field::after_comma(s, c);
-    let Field::Good(repeat, e) = text::field::field_within(s, d, 1, Code::MOST_REPEAT) else {
-        return FieldsRead::Fault(6);
-    };
+    let (repeat, e) = text::field::field_within(s, d, 1, Code::MOST_REPEAT).ok_or(6u64)?;
     let f = text::field::after_comma(s, e);
-    let Field::Good(offset, g) = text::field::field_within(s, f, 1, Code::MOST_OFFSET) else {
-        return FieldsRead::Fault(7);
-    };
+    let (offset, g) = text::field::field_within(s, f, 1, Code::MOST_OFFSET).ok_or(7u64)?;
     if offset % 2 == 0 {
-        return FieldsRead::Fault(7);
+        return Err(7);
     }
     let fields = Fields {
         id: id as u32,
@@ -52,5 +31,5 @@ pub fn fields_at(s: &[u8], at: usize) -> FieldsRead
         repeat: capped(repeat) as u32,
         offset: offset as u32,
     };
-    FieldsRead::Good(fields, text::field::after_comma(s, g))
+    Ok((fields, text::field::after_comma(s, g)))
 }

@@ -4,7 +4,6 @@ ghost use Rattle.std.proofs.lemmas.List.Edits.{sets};
 ghost use Rattle.command.specs.Read.{CommandInto};
 ghost use Rattle.command.specs.Given.{place_within, given_within, counts_within, taken_as, EachFits, command_given};
 
-use crate::read::CommandRead;
 use code::Code;
 use request::Place;
 use words::Fields;
@@ -77,14 +76,7 @@ fn counts_within(freq: u64, given: &[u64]) -> bool
     if count % 2 != 0 {
         return false;
     }
-    let mut i: usize = 0;
-    while i < count {
-        if !code::limits::is_legal(freq, given[i]) {
-            return false;
-        }
-        i += 1;
-    }
-    true
+    given.iter().all(|&n| code::limits::is_legal(freq, n))
 }
 
 // Stores counts in front.
@@ -92,10 +84,8 @@ fn put_counts(given: &[u64], counts: &mut [u16])
     requires { (length given.now ≤ length counts.old) × EachFits given.now }
     ensures { counts.new ≡ sets counts.old 0 given.now }
 {
-    let mut i: usize = 0;
-    while i < given.len() {
+    for i in 0..given.len() {
         counts[i] = given[i] as u16;
-        i += 1;
     }
 }
 
@@ -116,29 +106,29 @@ fn taken(f: Given) -> Fields
     }
 }
 
-// The command that is given, or 106 and nothing stored.
+// The fields as they are taken and the number of pairs of the command that is given, or 106 and nothing stored.
 pub fn command_given(
     command: Command,
     given: &[u64],
     counts: &mut [u16; Code::MOST_COUNTS],
-) -> CommandRead
+) -> Result<(Fields, usize), u64>
     ensures { CommandInto (command_given command given.now) counts.old result counts.new }
 {
     let place = command.place;
     if !place_within(place) {
-        return CommandRead::Fault(106);
+        return Err(106);
     }
     let f = command.fields;
     if !given_within(f) {
-        return CommandRead::Fault(106);
+        return Err(106);
     }
     if !counts_within(f.freq, given) {
-        return CommandRead::Fault(106);
+        return Err(106);
     }
     let count = given.len();
     if count as u64 <= f.offset {
-        return CommandRead::Fault(106);
+        return Err(106);
     }
     put_counts(given, counts);
-    CommandRead::Sent(taken(f), count / 2)
+    Ok((taken(f), count / 2))
 }

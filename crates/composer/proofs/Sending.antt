@@ -8,6 +8,7 @@ use borrow.Author.Tests.{ltb-false, le-ltb, le-leb, eqb-true, eqb-false, eq-eqb,
 use lib.Dec.{ltb, leb, eqb}
 use lib.ListN.{length, take}
 use lib.Seq.{take_all}
+use Rattle.std.proofs.Common.{Result, Ok}
 use Rattle.laws.specs.Checks.{between}
 use Rattle.laws.specs.Lists.{all}
 use Rattle.laws.specs.Put.{over, Put}
@@ -21,8 +22,6 @@ use Rattle.command.specs.declared.given.Command.{Command}
 use Rattle.command.specs.Read.{sent}
 use Rattle.command.specs.Given.{place_within, given_within, counts_within, taken_as, command_given}
 use Rattle.writer.specs.declared.Form.{Form}
-use Rattle.writer.specs.declared.sendir.Written.{Written}
-use Rattle.writer.specs.declared.sendir.Written.TheVariants.{Line}
 use Rattle.writer.specs.CodeText.{code_text}
 use Rattle.writer.specs.Sendir.{sendir_line, outcome, Wrote, line}
 use Rattle.writer.proofs.Limits.{given_taken, small}
@@ -111,18 +110,18 @@ module _ (form : Form) (c : Command) (counts : List ℕ) where
       ))
 
 -- the line and no CR yet
-pub record SendirWritten (text before after : List ℕ) (r : Written) : Type 0 where
-  pub answer : r ≡ Line (length text)
+pub record SendirWritten (text before after : List ℕ) (r : Result ℕ ℕ) : Type 0 where
+  pub answer : r ≡ Ok (length text)
   pub laid : after ≡ over before 0 text
   pub few : length text ≤ 3684
 
-pub sendir_written : {before after counts : List ℕ} {form : Form} {c : Command} {r : Written} → sendir_fault c counts ≡ 0 → 4096 ≤ length before
+pub sendir_written : {before after counts : List ℕ} {form : Form} {c : Command} {r : Result ℕ ℕ} → sendir_fault c counts ≡ 0 → 4096 ≤ length before
     → Wrote before form c counts after r → SendirWritten (sendir_text form c counts) before after r
 sendir_written {before} {counts = counts} {form = form} {c = c} fine room w =
     let e = sendir_outcome_law form c counts before fine room in
     record { answer = rw e at w.answer; laid = rw e at w.laid; few = sendir_few form c counts fine }
 
-module _ {text before after : List ℕ} {r : Written} {size : ℕ} (w : SendirWritten text before after r) (is : r ≡ Line size)
+module _ {text before after : List ℕ} {r : Result ℕ ℕ} {size : ℕ} (w : SendirWritten text before after r) (is : r ≡ Ok size)
     (room : 4096 ≤ length before) where
   length_is : size ≡ length text
   length_is = let e = w.answer in cc

@@ -1,7 +1,7 @@
 -- What is wrong with a request that is to be composed. Document 02: "request fields out of 01's limits get that field's number, in 01's order
 -- (014 too)". The number is 0 where nothing is wrong. That it is the number that the hub's own reading gives to the request spelled out are the
 -- theorems `refused_as_read` and `sendir_refused_as_read` of proofs/Refused.antt.
-use Rattle.std.specs.Prelude.{ℕ, ◌%◌, not, List, [], ◌∷◌, ltb, leb, eqb, length, take}
+use Rattle.std.specs.Prelude.{ℕ, ◌%◌, not, List, [], ◌∷◌, ltb, leb, eqb, length, take, cond, Result, Ok, Err}
 use Rattle.laws.specs.Checks.{◌⇒◌, first, between}
 use Rattle.laws.specs.Lists.{all}
 use Rattle.words.specs.Places.{ports_of}
@@ -12,6 +12,10 @@ use Rattle.command.specs.declared.given.Given.{Given}
 use Rattle.command.specs.declared.given.Command.{Command}
 use Rattle.composer.specs.declared.Wish.{Wish}
 use Rattle.composer.specs.declared.Wish.TheVariants.{Fixed, SetMode, GetMode, SetState, GetState, Stop, SetLamp, GetLamp}
+
+-- how the code answers a number: it is the refusal, and 0 is none
+abbrev pub judged : ℕ → Result Unit ℕ
+judged fault = cond (eqb fault 0) (Ok tt) (Err fault)
 
 -- the one that is first: 0 is none
 abbrev pub or_else : ℕ → ℕ → ℕ

@@ -3,15 +3,15 @@ ghost use Rattle.std.specs.Prelude.{◌≡◌, ◌++◌, ◌≤◌, length};
 ghost use Rattle.laws.specs.Bytes.{bytes};
 ghost use Rattle.laws.specs.Put.{Put};
 ghost use Rattle.request.specs.Name.{fixed_word};
-ghost use Rattle.composer.specs.Compose.{wish_text, refusal_of, wish_outcome, sendir_outcome, Composes};
+ghost use Rattle.composer.specs.Fault.{judged};
+ghost use Rattle.composer.specs.Compose.{wish_text, room_fault, wish_outcome, sendir_outcome, Composes};
 
-use crate::{Composed, Wish};
+use crate::{ROOM, Wish};
 use command::given::Command;
 use reply::put_address;
 use request::Fixed;
 use text::write::put_word;
 use writer::Form;
-use writer::sendir::Written;
 
 fn put_fixed(line: &mut [u8], fixed: Fixed) -> usize
     requires { 128 ≤ length line.old }
@@ -61,40 +61,34 @@ fn put_wish(line: &mut [u8], wish: Wish) -> usize
     }
 }
 
-// The number of a refusal: the request's fault, then 101 for too little room; 0 where there is neither.
-fn refusal(fault: u64, room: usize) -> u64
-    ensures { result ≡ refusal_of fault room }
+// 101 for too little room.
+fn room_fault(room: usize) -> Result<(), u64>
+    ensures { result ≡ judged (room_fault room) }
 {
-    if fault != 0 {
-        return fault;
+    if room < ROOM {
+        return Err(101);
     }
-    if room < Composed::ROOM {
-        return 101;
-    }
-    0
+    Ok(())
 }
 
-// The line of a request, or the number that the hub would answer it, then 101, and nothing written.
-pub fn compose(line: &mut [u8], wish: Wish) -> Composed
+// The line of a request: its length with its CR, or the number that the hub would answer it, then 101, and nothing written.
+pub fn compose(line: &mut [u8], wish: Wish) -> Result<usize, u64>
     ensures { Composes (wish_outcome (length line.old) wish) line.old result line.new }
 {
-    let number = refusal(crate::fault::wish_fault(wish), line.len());
-    if number != 0 {
-        return Composed::Refused(number);
-    }
-    Composed::Line(put_wish(line, wish))
+    crate::fault::wish_fault(wish).and(room_fault(line.len()))?;
+    Ok(put_wish(line, wish))
 }
 
 // The same of a sendir, in either form.
-pub fn compose_sendir(line: &mut [u8], form: Form, command: Command, counts: &[u64]) -> Composed
+pub fn compose_sendir(
+    line: &mut [u8],
+    form: Form,
+    command: Command,
+    counts: &[u64],
+) -> Result<usize, u64>
     ensures { Composes (sendir_outcome (length line.old) form command counts.now) line.old result line.new }
 {
-    let number = refusal(crate::fault::sendir_fault(command, counts), line.len());
-    if number != 0 {
-        return Composed::Refused(number);
-    }
-    match writer::sendir::write_sendir(line, form, command, counts) {
-        Written::Refused(other) => Composed::Refused(other),
-        Written::Line(size) => Composed::Line(put_word(line, size, b"\r")),
-    }
+    crate::fault::sendir_fault(command, counts).and(room_fault(line.len()))?;
+    let size = writer::sendir::write_sendir(line, form, command, counts)?;
+    Ok(put_word(line, size, b"\r"))
 }

@@ -18,17 +18,8 @@ pub enum Wish {
     GetLamp(Place),
 }
 
-// The length of the line that was composed, with its CR, or a refusal.
-#[derive(Clone, Copy)]
-pub enum Composed {
-    Refused(u64),
-    Line(usize),
-}
-
-impl Composed {
-    // The least room that a line is composed into.
-    pub const ROOM: usize = 4096;
-}
+// The least room that a line is composed into.
+pub const ROOM: usize = writer::sendir::ROOM;
 
 pub mod compose;
 mod fault;

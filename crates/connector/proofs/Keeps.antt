@@ -4,6 +4,7 @@ use mathlib.Core.Path.{◌≡◌, refl}
 use mathlib.Core.Bool.{not}
 use borrow.Author.Tests.{leb-false, ltb-false}
 use lib.Dec.{leb, ltb, eqb}
+use Rattle.std.proofs.Common.{Option, Some, None}
 use Rattle.laws.proofs.Choice.{cond_case}
 use Rattle.pace.specs.declared.Pace.{Pace}
 use Rattle.pace.specs.declared.Passed.{Passed}
@@ -18,11 +19,7 @@ use Rattle.request.specs.Mode.{is_sensor}
 use Rattle.connector.specs.declared.Owner.{Owner}
 use Rattle.connector.specs.declared.Owner.TheVariants.{Nobody}
 use Rattle.connector.specs.declared.Run.{Run}
-use Rattle.connector.specs.declared.Sending.{Sending}
-use Rattle.connector.specs.declared.Sending.TheVariants.{Idle, Running}
 use Rattle.connector.specs.declared.Connector.{Connector}
-use Rattle.connector.specs.declared.Change.{Change}
-use Rattle.connector.specs.declared.Change.TheVariants.{Nothing, Becomes}
 use Rattle.connector.specs.declared.Stepped.{Stepped}
 use Rattle.connector.specs.declared.pass.Passing.{Passing}
 use Rattle.connector.specs.Record.{fresh_connector, SoundRun, SoundSending, SoundConnector, SoundChange, changed}
@@ -35,9 +32,9 @@ pub fresh_connector_law : (mode : Mode) → SoundConnector (fresh_connector mode
 fresh_connector_law mode = record { sends = refl; reads = tt; lights = dark_sound }
 
 -- what a change makes of a sound connector
-pub changed_sound : (c : Connector) (change : Change) → SoundConnector c → SoundChange change → SoundConnector (changed c change)
-changed_sound c Nothing k s = k
-changed_sound c (Becomes next) k s = s
+pub changed_sound : (c : Connector) (change : Option Connector) → SoundConnector c → SoundChange change → SoundConnector (changed c change)
+changed_sound c None k s = k
+changed_sound c (Some next) k s = s
 
 -- ---- the records that it may become
 
@@ -52,12 +49,12 @@ pub stopped_connector : {c : Connector} → SoundConnector c → SoundConnector 
 stopped_connector k = record { sends = refl; reads = k.reads; lights = k.lights }
 
 -- what is sent is sound whoever is left to own it
-disowned_sends : (sending : Sending) (owner : Owner) (connection : ℕ) → SoundSending sending owner
+disowned_sends : (sending : Option Run) (owner : Owner) (connection : ℕ) → SoundSending sending owner
     → SoundSending sending (owner_left owner connection)
 unfolding owner_left
-disowned_sends Idle owner connection s =
+disowned_sends None owner connection s =
     cond_case (λ (o : Owner). o ≡ Nobody) (owns owner connection) Nobody owner (λ _. refl) (λ _. s)
-disowned_sends (Running r) owner connection s = s
+disowned_sends (Some r) owner connection s = s
 
 -- without an owner who has left
 pub disowned_connector : (c : Connector) (connection : ℕ) → SoundConnector c → SoundConnector (disowned c connection)
@@ -80,9 +77,9 @@ paced_run_law s paced =
 pub renewed_connector : (c : Connector) → SoundConnector c → SoundConnector (renewed c)
 renewed_connector c k = go c.sending k.sends
   where
-    go : (sending : Sending) → SoundSending sending c.owner → SoundConnector (renewed_sending c sending)
-    go Idle s = k
-    go (Running r) s =
+    go : (sending : Option Run) → SoundSending sending c.owner → SoundConnector (renewed_sending c sending)
+    go None s = k
+    go (Some r) s =
         record {
           sends = paced_run_law s (renewed_sound s.paced s.repeat_low s.repeat_high);
           reads = k.reads;
@@ -106,9 +103,9 @@ pub passed_connector : (c : Connector) (place : Place) (n : ℕ) → SoundConnec
 unfolding passed
 passed_connector c place n k = go c.sending k.sends
   where
-    go : (sending : Sending) → SoundSending sending c.owner → SoundConnector (after c (passing_sending c place n sending))
-    go Idle s = lit_connector c n k
-    go (Running r) s =
+    go : (sending : Option Run) → SoundSending sending c.owner → SoundConnector (after c (passing_sending c place n sending))
+    go None s = lit_connector c n k
+    go (Some r) s =
         cond_case (λ (x : Passed). SoundConnector (after c (passing_run c place r x)))
         (leb (end_of r.pace) (r.pace.at.0 + n * r.fields.freq)) _ _
         (λ _. stopped_connector k)

@@ -1,5 +1,5 @@
 -- The records that a connector may become, the same for each of them.
-use Rattle.std.specs.Prelude.{ℕ, Bool, true, false, cond, eqb}
+use Rattle.std.specs.Prelude.{ℕ, Bool, true, false, cond, eqb, Option, Some, None}
 use Rattle.pace.specs.Pace as pace
 use Rattle.lamp.specs.declared.Lamp.{Lamp}
 use Rattle.lamp.specs.Lamp.{dark}
@@ -7,63 +7,50 @@ use Rattle.request.specs.declared.mode.Mode.{Mode}
 use Rattle.request.specs.declared.mode.Mode.TheVariants.{Ir, Sensor, IrBlaster, LedLighting}
 use Rattle.connector.specs.declared.Owner.{Owner}
 use Rattle.connector.specs.declared.Owner.TheVariants.{Nobody, Connection}
-use Rattle.connector.specs.declared.Contact.TheVariants.{Unread, Read}
 use Rattle.connector.specs.declared.Run.{Run}
-use Rattle.connector.specs.declared.Sending.{Sending}
-use Rattle.connector.specs.declared.Sending.TheVariants.{Idle, Running}
 use Rattle.connector.specs.declared.Connector.{Connector}
+use Rattle.connector.specs.Record.{unread, idle}
 
 abbrev pub same_mode : Mode → Mode → Bool
 same_mode Ir Ir = true
-same_mode Ir Sensor = false
-same_mode Ir IrBlaster = false
-same_mode Ir LedLighting = false
-same_mode Sensor Ir = false
 same_mode Sensor Sensor = true
-same_mode Sensor IrBlaster = false
-same_mode Sensor LedLighting = false
-same_mode IrBlaster Ir = false
-same_mode IrBlaster Sensor = false
 same_mode IrBlaster IrBlaster = true
-same_mode IrBlaster LedLighting = false
-same_mode LedLighting Ir = false
-same_mode LedLighting Sensor = false
-same_mode LedLighting IrBlaster = false
 same_mode LedLighting LedLighting = true
+same_mode _ _ = false
 
 -- "a change of mode makes the contact unread, the present mode again changes nothing"; "A connector entering this mode is at 0 with target 0"
 unfoldable pub with_mode : Connector → Mode → Connector
 with_mode c mode =
     cond (same_mode c.mode mode) c
-    (record { owner = c.owner; mode = mode; contact = Unread; sending = c.sending; lamp = dark })
+    (record { owner = c.owner; mode = mode; contact = unread; sending = c.sending; lamp = dark })
 
 abbrev pub with_reading : Connector → ℕ → Connector
-with_reading c value = record { owner = c.owner; mode = c.mode; contact = Read value; sending = c.sending; lamp = c.lamp }
+with_reading c value = record { owner = c.owner; mode = c.mode; contact = Some value; sending = c.sending; lamp = c.lamp }
 
 abbrev pub with_lamp : Connector → Lamp → Connector
 with_lamp c lamp = record { owner = c.owner; mode = c.mode; contact = c.contact; sending = c.sending; lamp = lamp }
 
 -- the same mode, contact and lamp, with another transmission or none
-abbrev pub with_sending : Connector → Owner → Sending → Connector
+abbrev pub with_sending : Connector → Owner → Option Run → Connector
 with_sending c owner sending = record { owner = owner; mode = c.mode; contact = c.contact; sending = sending; lamp = c.lamp }
 
 -- a renewal, with the command's own repeat
 abbrev pub renewed_run : Run → Run
 renewed_run r = record { fields = r.fields; count = r.count; pace = pace.renewed r.pace r.fields.repeat }
 
-abbrev pub renewed_sending : Connector → Sending → Connector
-renewed_sending c Idle = c
-renewed_sending c (Running r) = with_sending c c.owner (Running (renewed_run r))
+abbrev pub renewed_sending : Connector → Option Run → Connector
+renewed_sending c None = c
+renewed_sending c (Some r) = with_sending c c.owner (Some (renewed_run r))
 
 abbrev pub renewed : Connector → Connector
 renewed c = renewed_sending c c.sending
 
-abbrev pub is_running : Sending → Bool
-is_running Idle = false
-is_running (Running r) = true
+abbrev pub is_running : Option Run → Bool
+is_running None = false
+is_running (Some r) = true
 
 abbrev pub stopped : Connector → Connector
-stopped c = with_sending c Nobody Idle
+stopped c = with_sending c Nobody idle
 
 abbrev pub owns : Owner → ℕ → Bool
 owns Nobody connection = false

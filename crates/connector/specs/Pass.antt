@@ -1,5 +1,5 @@
 -- Time on a connector.
-use Rattle.std.specs.Prelude.{ℕ, cond, List, [], ◌∷◌, eqb}
+use Rattle.std.specs.Prelude.{ℕ, cond, Option, Some, None, List, [], ◌∷◌, eqb}
 use Rattle.pace.specs.declared.Passed.{Passed}
 use Rattle.pace.specs.declared.Passed.TheVariants as passed
 use Rattle.pace.specs.declared.Micros.{Micros}
@@ -9,8 +9,6 @@ use Rattle.lamp.specs.Lamp as lamp
 use Rattle.request.specs.declared.Place.{Place}
 use Rattle.connector.specs.declared.Completion.{Completion}
 use Rattle.connector.specs.declared.Run.{Run}
-use Rattle.connector.specs.declared.Sending.{Sending}
-use Rattle.connector.specs.declared.Sending.TheVariants as sending
 use Rattle.connector.specs.declared.Connector.{Connector}
 use Rattle.connector.specs.declared.pass.Passing.{Passing}
 use Rattle.connector.specs.declared.pass.Passing.TheVariants.{Still, Running, Complete}
@@ -23,16 +21,16 @@ abbrev pub paced_run : Run → Pace → Run
 paced_run r p = record { fields = r.fields; count = r.count; pace = p }
 
 abbrev pub passing_run : Connector → Place → Run → Passed → Passing
-passing_run c place r (passed.Running p) = Running (with_sending c c.owner (sending.Running (paced_run r p)))
+passing_run c place r (passed.Running p) = Running (with_sending c c.owner (Some (paced_run r p)))
 passing_run c place r (passed.Complete moment) = Complete (stopped c) (completion_of c place r moment)
 
 -- where nothing is transmitted: a lamp that is not at its target goes on
 unfoldable pub passing_lamp : Connector → ℕ → Passing
 passing_lamp c n = cond (eqb c.lamp.gap.0 0) Still (Running (with_lamp c (lamp.passed c.lamp n)))
 
-abbrev pub passing_sending : Connector → Place → ℕ → Sending → Passing
-passing_sending c place n sending.Idle = passing_lamp c n
-passing_sending c place n (sending.Running r) = passing_run c place r (pace.passed r.pace r.fields.freq n)
+abbrev pub passing_sending : Connector → Place → ℕ → Option Run → Passing
+passing_sending c place n None = passing_lamp c n
+passing_sending c place n (Some r) = passing_run c place r (pace.passed r.pace r.fields.freq n)
 
 -- what n microseconds make of a connector
 abbrev pub passing : Connector → Place → ℕ → Passing

@@ -19,9 +19,7 @@ fn owner_left(owner: Owner, connection: u8) -> Owner
 pub fn disown(c: &mut Connector, connection: u8)
     ensures { c.new ≡ disowned c.old connection }
 {
-    let before = c.owner;
-    let owner = owner_left(before, connection);
-    c.owner = owner;
+    c.owner = owner_left(c.owner, connection);
 }
 
 // The same for a record by value, which is lent to it and comes back.

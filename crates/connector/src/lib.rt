@@ -11,18 +11,12 @@ use request::Place;
 use request::mode::Mode;
 use words::Fields;
 
-// Who hears of a transmission: a connection, or nobody.
-#[derive(Clone, Copy)]
+// Who hears of a transmission: a connection, or nobody. It stays an enum of its own, and no Option of a connection: document 01 has
+// "a transmission's owner is an enum, a connection or nobody".
+#[derive(Clone, Copy, PartialEq, Eq)]
 pub enum Owner {
     Nobody,
     Connection(u8),
-}
-
-// A contact: no reading since the hub or the mode began, or the last one.
-#[derive(Clone, Copy)]
-pub enum Contact {
-    Unread,
-    Read(u8),
 }
 
 // A transmission: the command's fields, its number of pairs, and how far it is.
@@ -34,17 +28,13 @@ pub struct Run {
 }
 
 #[derive(Clone, Copy)]
-pub enum Sending {
-    Idle,
-    Running(Run),
-}
-
-#[derive(Clone, Copy)]
 pub struct Connector {
     pub owner: Owner,
     pub mode: Mode,
-    pub contact: Contact,
-    pub sending: Sending,
+    // The contact's last reading; None where it is unread, that is without one since the hub or the mode began.
+    pub contact: Option<u8>,
+    // What it transmits; None where it is idle.
+    pub sending: Option<Run>,
     pub lamp: Lamp,
 }
 
@@ -55,8 +45,8 @@ impl Connector {
         Connector {
             owner: Owner::Nobody,
             mode,
-            contact: Contact::Unread,
-            sending: Sending::Idle,
+            contact: None,
+            sending: None,
             lamp: Lamp::dark(),
         }
     }
@@ -71,18 +61,11 @@ pub enum Answer {
     Reply { reply: Reply, also: Owner },
 }
 
-// What becomes of a connector: it stays as it is, or it becomes another record.
-#[derive(Clone, Copy)]
-pub enum Change {
-    Nothing,
-    Becomes(Connector),
-}
-
-// What a request to a connector gives: the answer and the change.
+// What a request to a connector gives: the answer, and what the connector becomes, or None where it stays as it is.
 #[derive(Clone, Copy)]
 pub struct Stepped {
     pub answer: Answer,
-    pub change: Change,
+    pub change: Option<Connector>,
 }
 
 // A transmission that is complete: for whom, when, counted from the wait's start, on which connector, and its command's id.

@@ -3,7 +3,7 @@ ghost use Rattle.std.specs.Prelude.{◌≡◌, ◌≤◌};
 ghost use Rattle.connector.specs.Record.{SoundConnector};
 ghost use Rattle.connector.specs.Pass.{passing_lamp, passing};
 
-use crate::{Completion, Connector, Owner, Run, Sending};
+use crate::{Completion, Connector, Owner, Run};
 use pace::{Micros, Passed};
 use request::Place;
 
@@ -21,11 +21,10 @@ fn lit(c: Connector, wait: Micros) -> Passing
     requires { SoundConnector c × (wait.0 ≤ 1000000000) }
     ensures { result ≡ passing_lamp c wait.0 }
 {
-    let lamp = c.lamp;
-    if lamp.gap.0 == 0 {
+    if c.lamp.gap.0 == 0 {
         return Passing::Still;
     }
-    Passing::Running(crate::records::with_lamp(c, lamp.passed(wait)))
+    Passing::Running(crate::records::with_lamp(c, c.lamp.passed(wait)))
 }
 
 // The connector at a place some microseconds later.
@@ -33,34 +32,23 @@ pub fn pass(c: Connector, place: Place, wait: Micros) -> Passing
     requires { SoundConnector c × (wait.0 ≤ 1000000000) }
     ensures { result ≡ passing c place wait.0 }
 {
-    let sending = c.sending;
-    match sending {
-        Sending::Idle => lit(c, wait),
-        Sending::Running(run) => {
-            let fields = run.fields;
-            let old = run.pace;
-            let owner = c.owner;
-            match old.passed(fields.freq as u64, wait) {
-                Passed::Running(pace) => {
-                    let next = Run {
-                        fields,
-                        count: run.count,
-                        pace,
-                    };
-                    Passing::Running(crate::records::with_sending(c, owner, Sending::Running(next)))
-                }
-                Passed::Complete(moment) => {
-                    let id = fields.id as u64;
-                    let completion = Completion {
-                        owner,
-                        moment,
-                        place,
-                        id,
-                    };
-                    let next = crate::records::with_sending(c, Owner::Nobody, Sending::Idle);
-                    Passing::Complete(next, completion)
-                }
-            }
+    let Some(run) = c.sending else {
+        return lit(c, wait);
+    };
+    match run.pace.passed(u64::from(run.fields.freq), wait) {
+        Passed::Running(pace) => {
+            let next = Run { pace, ..run };
+            Passing::Running(crate::records::with_sending(c, c.owner, Some(next)))
+        }
+        Passed::Complete(moment) => {
+            let completion = Completion {
+                owner: c.owner,
+                moment,
+                place,
+                id: u64::from(run.fields.id),
+            };
+            let next = crate::records::with_sending(c, Owner::Nobody, None);
+            Passing::Complete(next, completion)
         }
     }
 }

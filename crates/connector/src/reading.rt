@@ -2,7 +2,7 @@
 ghost use Rattle.std.specs.Prelude.{◌≡◌};
 ghost use Rattle.connector.specs.Reading.{refuses, reading_step};
 
-use crate::{Answer, Change, Connector, Stepped};
+use crate::{Answer, Connector, Stepped};
 
 // A call's refusal.
 fn refuses(number: u64) -> Stepped
@@ -10,7 +10,7 @@ fn refuses(number: u64) -> Stepped
 {
     Stepped {
         answer: Answer::Refused(number),
-        change: Change::Nothing,
+        change: None,
     }
 }
 
@@ -18,8 +18,7 @@ fn refuses(number: u64) -> Stepped
 pub fn reading(c: Connector, value: u64) -> Stepped
     ensures { result ≡ reading_step c value }
 {
-    let mode = c.mode;
-    if !request::mode::is_sensor(mode) {
+    if !request::mode::is_sensor(c.mode) {
         return refuses(104);
     }
     if 1 < value {
@@ -27,6 +26,6 @@ pub fn reading(c: Connector, value: u64) -> Stepped
     }
     Stepped {
         answer: Answer::Taken,
-        change: Change::Becomes(crate::records::with_reading(c, value as u8)),
+        change: Some(crate::records::with_reading(c, value as u8)),
     }
 }

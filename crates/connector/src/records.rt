@@ -1,75 +1,33 @@
 // The records that a connector may become.
 ghost use Rattle.std.specs.Prelude.{◌≡◌};
 ghost use Rattle.connector.specs.Record.{SoundSending};
-ghost use Rattle.connector.specs.Change.{same_mode, with_mode, with_reading, with_lamp, with_sending, is_running, renewed, owns};
+ghost use Rattle.connector.specs.Change.{with_mode, with_reading, with_lamp, with_sending, is_running, renewed, owns};
 
-use crate::{Connector, Contact, Owner, Run, Sending};
+use crate::{Connector, Owner, Run};
 use lamp::Lamp;
 use request::mode::Mode;
-
-fn same_mode(a: Mode, b: Mode) -> bool
-    ensures { result ≡ same_mode a b }
-{
-    match a {
-        Mode::Ir => match b {
-            Mode::Ir => true,
-            Mode::Sensor => false,
-            Mode::IrBlaster => false,
-            Mode::LedLighting => false,
-        },
-        Mode::Sensor => match b {
-            Mode::Ir => false,
-            Mode::Sensor => true,
-            Mode::IrBlaster => false,
-            Mode::LedLighting => false,
-        },
-        Mode::IrBlaster => match b {
-            Mode::Ir => false,
-            Mode::Sensor => false,
-            Mode::IrBlaster => true,
-            Mode::LedLighting => false,
-        },
-        Mode::LedLighting => match b {
-            Mode::Ir => false,
-            Mode::Sensor => false,
-            Mode::IrBlaster => false,
-            Mode::LedLighting => true,
-        },
-    }
-}
 
 // A change of mode makes the contact unread and leaves no lamp but a dark one; the present mode again changes nothing.
 pub fn with_mode(c: Connector, mode: Mode) -> Connector
     ensures { result ≡ with_mode c mode }
 {
-    let present = c.mode;
-    if same_mode(present, mode) {
+    if c.mode == mode {
         return c;
     }
-    let owner = c.owner;
-    let sending = c.sending;
     Connector {
-        owner,
         mode,
-        contact: Contact::Unread,
-        sending,
+        contact: None,
         lamp: Lamp::dark(),
+        ..c
     }
 }
 
 pub fn with_reading(c: Connector, value: u8) -> Connector
     ensures { result ≡ with_reading c value }
 {
-    let owner = c.owner;
-    let mode = c.mode;
-    let sending = c.sending;
-    let lamp = c.lamp;
     Connector {
-        owner,
-        mode,
-        contact: Contact::Read(value),
-        sending,
-        lamp,
+        contact: Some(value),
+        ..c
     }
 }
 
@@ -77,41 +35,23 @@ pub fn with_reading(c: Connector, value: u8) -> Connector
 pub fn with_lamp(c: Connector, lamp: Lamp) -> Connector
     ensures { result ≡ with_lamp c lamp }
 {
-    let owner = c.owner;
-    let mode = c.mode;
-    let contact = c.contact;
-    let sending = c.sending;
-    Connector {
-        owner,
-        mode,
-        contact,
-        sending,
-        lamp,
-    }
+    Connector { lamp, ..c }
 }
 
-pub fn is_running(sending: Sending) -> bool
+pub fn is_running(sending: Option<Run>) -> bool
     ensures { result ≡ is_running sending }
 {
-    match sending {
-        Sending::Idle => false,
-        Sending::Running(_) => true,
-    }
+    sending.is_some()
 }
 
 // The same mode, contact and lamp, with another transmission or none.
-pub fn with_sending(c: Connector, owner: Owner, sending: Sending) -> Connector
+pub fn with_sending(c: Connector, owner: Owner, sending: Option<Run>) -> Connector
     ensures { result ≡ with_sending c owner sending }
 {
-    let mode = c.mode;
-    let contact = c.contact;
-    let lamp = c.lamp;
     Connector {
         owner,
-        mode,
-        contact,
         sending,
-        lamp,
+        ..c
     }
 }
 
@@ -120,29 +60,15 @@ pub fn renewed(c: Connector) -> Connector
     requires { SoundSending c.sending c.owner }
     ensures { result ≡ renewed c }
 {
-    let sending = c.sending;
-    match sending {
-        Sending::Idle => c,
-        Sending::Running(run) => {
-            let owner = c.owner;
-            let fields = run.fields;
-            let old = run.pace;
-            let pace = old.renewed(fields.repeat);
-            let next = Run {
-                fields,
-                count: run.count,
-                pace,
-            };
-            with_sending(c, owner, Sending::Running(next))
-        }
-    }
+    let Some(run) = c.sending else {
+        return c;
+    };
+    let pace = run.pace.renewed(run.fields.repeat);
+    with_sending(c, c.owner, Some(Run { pace, ..run }))
 }
 
 pub fn owns(owner: Owner, connection: u8) -> bool
     ensures { result ≡ owns owner connection }
 {
-    match owner {
-        Owner::Nobody => false,
-        Owner::Connection(number) => number == connection,
-    }
+    owner == Owner::Connection(connection)
 }

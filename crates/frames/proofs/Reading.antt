@@ -2,11 +2,11 @@
 -- frames of any inputs say these inputs.
 use Prim.Native.Nat.{ℕ, suc, ◌+◌, ◌-◌, ◌*◌, ◌/◌, ◌%◌, ◌^◌, ◌≤◌, ◌<◌}
 use mathlib.Core.Path.{◌≡◌, refl, ap, ◌∙◌}
-use mathlib.Core.Bool.{true, false, cond}
+use mathlib.Core.Bool.{true, cond}
 use mathlib.Core.List.{List, [], ◌∷◌, ◌++◌, map, append-nil, append_assoc}
 use native.Mathlib.Omega.{arith}
 use lib.Dec.{eqb, leb, ltb}
-use lib.ListN.{length, drop, get_or, drop_of_length-le}
+use lib.ListN.{length, drop, get_or}
 use borrow.Author.Tests.{eqb-true, ltb-true, ltb-false, ne_eqb, lt-leb, le-leb}
 use Rattle.laws.proofs.Choice.{by_test}
 use Rattle.laws.proofs.Lists.{drop_next}
@@ -19,7 +19,7 @@ use Rattle.frames.specs.declared.Step.{Step}
 use Rattle.frames.specs.Layout.{letter, four_bytes, number_of, frame_of, Said, stream, event as says, refused, said_by}
 use Rattle.frames.specs.Layout.{Input, piece, closed, reading, wait, carriers, levels, due, encoded, meant, Sayable, encoded_all, meant_all, SayableAll}
 use Rattle.frames.specs.Read.{piece_of, passing, more, gives, other, whole, piece_step, wait_step, head_step, next_step}
-use Rattle.frames.specs.Read.{SoundFrame, goes_on, reading as reading_of, counting, read_of}
+use Rattle.frames.specs.Read.{SoundFrame, goes_on, counting, read_of}
 use Rattle.frames.proofs.Keeps.{next_sound}
 use Rattle.frames.specs.Feed.{told, Heard, heard}
 
@@ -85,7 +85,7 @@ wait_read connection (a ∷ b ∷ d ∷ []) h = absurd (omega arith)
 wait_read connection (a ∷ b ∷ d ∷ e ∷ []) h = refl
 wait_read connection (a ∷ b ∷ d ∷ e ∷ g ∷ s) h = absurd (omega arith)
 
-gives_read : (e : Event) (s : List ℕ) → length s ≡ 0 → behind_head (gives e) s ≡ ended (told e)
+gives_read : (e : Event) (s : List ℕ) → length s ≡ 0 → behind_head (gives e) s ≡ ended (says e ∷ [])
 gives_read e [] h = rw append-nil
 gives_read e (b ∷ s) h = absurd (omega arith)
 
@@ -165,29 +165,14 @@ pub record Runs (begun : Frame) (s : List ℕ) (f : Frame) (i : ℕ) : Type 0 wh
   pub within : i ≤ length s
   pub same : counting i (read_of f (drop i s)) ≡ read_of begun s
 
-pub runs_start : (f : Frame) (s : List ℕ) → SoundFrame f → Runs f s f 0
-runs_start f s sound =
-    let e : 0 + (read_of f s).used ≡ (read_of f s).used = omega arith in
-    record { sound = sound; within = omega arith; same = rw e }
-
-module _ {begun : Frame} {s : List ℕ} {f : Frame} {i : ℕ} (now : Runs begun s f i) {x : Step} (is : x ≡ next_step f (get_or s i 0)) (less : i < length s) where
-  pub runs_on : get_or s i 0 < 256 → goes_on x ≡ true → Runs begun s x.frame (i + 1)
-  runs_on byte on =
-      let rest = read_of (next_step f (get_or s i 0)).frame (drop (i + 1) s) in
-      let t : goes_on (next_step f (get_or s i 0)) ≡ true = rw is at on in
-      let e : i + (1 + rest.used) ≡ i + 1 + rest.used = omega arith in
-      record {
-        sound = rw is (next_sound f (get_or s i 0) byte now.sound);
-        within = omega arith;
-        same = rw is (rw (read_next f s i less, t, e) at now.same);
-      }
-
-  pub runs_stop : goes_on x ≡ false → reading_of x (i + 1) ≡ read_of begun s
-  runs_stop stop =
-      let t : goes_on (next_step f (get_or s i 0)) ≡ false = rw is at stop in
-      rw is (rw (read_next f s i less, t) at now.same)
-
-pub runs_end : {begun : Frame} {s : List ℕ} {f : Frame} {i : ℕ} → Runs begun s f i → length s ≤ i → reading_of (more f) i ≡ read_of begun s
-runs_end {begun} {s} {f} {i} now done =
-    let e : i + 0 ≡ i = omega arith in
-    rw (drop_of_length-le s done, e) at now.same
+pub runs_on : {begun : Frame} {s : List ℕ} {f : Frame} {i : ℕ} → Runs begun s f i → {x : Step} → x ≡ next_step f (get_or s i 0) → i < length s
+    → get_or s i 0 < 256 → goes_on x ≡ true → Runs begun s x.frame (i + 1)
+runs_on {begun} {s} {f} {i} now is less byte on =
+    let rest = read_of (next_step f (get_or s i 0)).frame (drop (i + 1) s) in
+    let t : goes_on (next_step f (get_or s i 0)) ≡ true = rw is at on in
+    let e : i + (1 + rest.used) ≡ i + 1 + rest.used = omega arith in
+    record {
+      sound = rw is (next_sound f (get_or s i 0) byte now.sound);
+      within = omega arith;
+      same = rw is (rw (read_next f s i less, t, e) at now.same);
+    }

@@ -1,21 +1,14 @@
 -- What a run of bytes says, fed to a frame in hand one by one.
-use Rattle.std.specs.Prelude.{ℕ, List, [], ◌∷◌, ◌++◌}
+use Rattle.std.specs.Prelude.{ℕ, Option, Some, None, List, [], ◌∷◌, ◌++◌}
 use Rattle.frames.specs.declared.Frame.{Frame}
 use Rattle.frames.specs.declared.Frame.TheVariants as frame
 use Rattle.frames.specs.declared.Event.{Event}
-use Rattle.frames.specs.declared.Event.TheVariants as event
 use Rattle.frames.specs.Layout.{Said, stream, event as says}
 use Rattle.frames.specs.Read.{next_step}
 
-abbrev pub told : Event → List Said
-told event.Nothing = []
-told (event.Closed connection) = says (event.Closed connection) ∷ []
-told (event.Reading port value) = says (event.Reading port value) ∷ []
-told (event.Wait connection micros) = says (event.Wait connection micros) ∷ []
-told event.Carriers = says event.Carriers ∷ []
-told event.Levels = says event.Levels ∷ []
-told event.Due = says event.Due ∷ []
-told (event.Refused connection number) = says (event.Refused connection number) ∷ []
+abbrev pub told : Option Event → List Said
+told None = []
+told (Some e) = says e ∷ []
 
 -- a byte: within a piece it is one of the connection's stream; elsewhere it says what it completes
 abbrev pub said_at : Frame → ℕ → List Said

@@ -1,6 +1,6 @@
 -- A frame taken apart byte by byte, as it comes. docs/PORT-OTHER.md: "a piece's bytes are served as they come, all other frames when they are whole."
 -- What a whole frame is stands in Layout; that the bytes of any frame give exactly that is proved in proofs/Reading.antt.
-use Rattle.std.specs.Prelude.{ℕ, ◌+◌, ◌-◌, ◌*◌, ◌^◌, ◌≤◌, ◌<◌, Bool, true, false, cond, ◌&&◌, List, [], ◌∷◌, eqb, ltb}
+use Rattle.std.specs.Prelude.{ℕ, ◌+◌, ◌-◌, ◌*◌, ◌^◌, ◌≤◌, ◌<◌, Bool, true, false, cond, ◌&&◌, Some, None, is_none, List, [], ◌∷◌, eqb, ltb}
 use Rattle.laws.specs.Checks.{◌⇒◌, first}
 use Rattle.pace.specs.Pace.{micros}
 use Rattle.frames.specs.declared.Frame.{Frame}
@@ -26,10 +26,10 @@ SoundFrame (frame.Over left) = 0 < left
 
 -- it goes on; it is at its end
 abbrev pub more : Frame → Step
-more f = record { frame = f; event = event.Nothing }
+more f = record { frame = f; event = None }
 
 abbrev pub gives : Event → Step
-gives e = record { frame = frame.Between; event = e }
+gives e = record { frame = frame.Between; event = Some e }
 
 -- a piece, and a frame that is passed over, of which so many bytes are to come
 unfoldable pub piece_of : ℕ → ℕ → Frame
@@ -42,7 +42,7 @@ passing left = cond (eqb left 0) frame.Between (frame.Over left)
 
 -- "gets the error frame .., and the next frame is read: its length says where that begins"
 abbrev pub other : ℕ → ℕ → ℕ → Step
-other connection number length = record { frame = passing length; event = event.Refused connection number }
+other connection number length = record { frame = passing length; event = Some (event.Refused connection number) }
 
 -- a frame whose kind has so many bytes
 unfoldable pub whole : Step → ℕ → ℕ → ℕ → Step
@@ -96,19 +96,9 @@ is_head part.Head = true
 is_head (part.Piece connection left) = false
 is_head (part.Over left) = false
 
-abbrev pub is_nothing : Event → Bool
-is_nothing event.Nothing = true
-is_nothing (event.Closed connection) = false
-is_nothing (event.Reading port value) = false
-is_nothing (event.Wait connection micros) = false
-is_nothing event.Carriers = false
-is_nothing event.Levels = false
-is_nothing event.Due = false
-is_nothing (event.Refused connection number) = false
-
 -- nothing is complete, and the next byte is of a head or a number
 abbrev pub goes_on : Step → Bool
-goes_on step = is_nothing step.event && is_head (part_of step.frame)
+goes_on step = is_none step.event && is_head (part_of step.frame)
 
 abbrev pub reading : Step → ℕ → Read
 reading step used = record { frame = step.frame; event = step.event; used = used }

@@ -3,7 +3,7 @@
 #![tactic(auto)]
 
 ghost use Rattle.std.specs.Prelude.{◌≡◌, ◌+◌, ◌*◌};
-ghost use Rattle.frames.specs.Read.{part_of, is_head, is_nothing, goes_on, read_of};
+ghost use Rattle.frames.specs.Read.{part_of, goes_on, read_of};
 ghost use Rattle.frames.specs.Read.{SoundFrame, piece_of, passing, next_step, more, gives, other, whole, piece_step, wait_step, head_step};
 
 use pace::Micros;
@@ -41,10 +41,9 @@ pub enum Frame {
     Over(usize),
 }
 
-// What a byte completes. A refusal is for a frame's connection; one of 0 is that of a frame of another form.
+// What a byte can complete. A refusal is for a frame's connection; one of 0 is that of a frame of another form.
 #[derive(Clone, Copy)]
 pub enum Event {
-    Nothing,
     Closed(u8),
     Reading { port: u8, value: u8 },
     Wait { connection: u8, micros: Micros },
@@ -54,11 +53,11 @@ pub enum Event {
     Refused { connection: u8, number: u64 },
 }
 
-// The frame behind a byte, and what the byte completes.
+// The frame behind a byte, and what the byte completes, if anything.
 #[derive(Clone, Copy)]
 pub struct Step {
     pub frame: Frame,
-    pub event: Event,
+    pub event: Option<Event>,
 }
 
 // What the next byte is of: a frame's head or number, a piece, or a frame that is passed over.
@@ -69,68 +68,26 @@ pub enum Part {
     Over(usize),
 }
 
-// What bytes gave: the frame behind them, what they complete, and how many they were.
+// What bytes gave: the frame behind them, what they complete, if anything, and how many they were.
 #[derive(Clone, Copy)]
 pub struct Read {
     pub frame: Frame,
-    pub event: Event,
+    pub event: Option<Event>,
     pub used: usize,
-}
-
-fn is_nothing(event: Event) -> bool
-    ensures { result ≡ is_nothing event }
-{
-    match event {
-        Event::Nothing => true,
-        Event::Closed(_) => false,
-        Event::Reading { port: _, value: _ } => false,
-        Event::Wait {
-            connection: _,
-            micros: _,
-        } => false,
-        Event::Carriers => false,
-        Event::Levels => false,
-        Event::Due => false,
-        Event::Refused {
-            connection: _,
-            number: _,
-        } => false,
-    }
-}
-
-fn is_head(part: Part) -> bool
-    ensures { result ≡ is_head part }
-{
-    match part {
-        Part::Head => true,
-        Part::Piece {
-            connection: _,
-            left: _,
-        } => false,
-        Part::Over(_) => false,
-    }
 }
 
 // Whether nothing is complete and the next byte is of a head or a number.
 fn goes_on(step: Step) -> bool
     ensures { result ≡ goes_on step }
 {
-    let frame = step.frame;
-    let event = step.event;
-    if is_nothing(event) {
-        return is_head(frame.part());
-    }
-    false
+    step.event.is_none() && matches!(step.frame.part(), Part::Head)
 }
 
 // The frame goes on.
 fn more(frame: Frame) -> Step
     ensures { result ≡ more frame }
 {
-    Step {
-        frame,
-        event: Event::Nothing,
-    }
+    Step { frame, event: None }
 }
 
 // The frame is at its end.
@@ -139,7 +96,7 @@ fn gives(event: Event) -> Step
 {
     Step {
         frame: Frame::Between,
-        event,
+        event: Some(event),
     }
 }
 
@@ -149,11 +106,12 @@ fn other(connection: u8, number: u64, length: usize) -> Step
 {
     Step {
         frame: Frame::passing(length),
-        event: Event::Refused { connection, number },
+        event: Some(Event::Refused { connection, number }),
     }
 }
 
 // What a kind's frame gives at its head, where its length is the one that the kind has.
+#[tactic(auto, unfolding(crate::specs::Read::whole))]
 fn whole(step: Step, due: usize, connection: u8, length: usize) -> Step
     ensures { result ≡ whole step due connection length }
 {
@@ -164,6 +122,7 @@ fn whole(step: Step, due: usize, connection: u8, length: usize) -> Step
 }
 
 // A piece's head.
+#[tactic(auto, unfolding(crate::specs::Read::piece_step))]
 fn piece_step(connection: u8, length: usize) -> Step
     ensures { result ≡ piece_step connection length }
 {
@@ -174,6 +133,7 @@ fn piece_step(connection: u8, length: usize) -> Step
 }
 
 // A wait of which so many bytes have come.
+#[tactic(auto, unfolding(crate::specs::Read::wait_step))]
 fn wait_step(connection: u8, come: usize, number: u64) -> Step
     ensures { result ≡ wait_step connection come number }
 {
@@ -191,48 +151,25 @@ fn wait_step(connection: u8, come: usize, number: u64) -> Step
 }
 
 // A frame's four bytes.
+#[tactic(auto, unfolding(crate::specs::Read::head_step))]
 fn head_step(kind: u8, connection: u8, length: usize) -> Step
     ensures { result ≡ head_step kind connection length }
 {
-    if kind == b'b' {
-        return piece_step(connection, length);
+    match kind {
+        b'b' => piece_step(connection, length),
+        b'x' => whole(gives(Event::Closed(connection)), 0, connection, length),
+        b'r' => whole(more(Frame::Reading(connection)), 1, connection, length),
+        b'w' => whole(wait_step(connection, 0, 0), 4, connection, length),
+        b'c' => whole(gives(Event::Carriers), 0, connection, length),
+        b'l' => whole(gives(Event::Levels), 0, connection, length),
+        b'd' => whole(gives(Event::Due), 0, connection, length),
+        _ => other(connection, 0, length),
     }
-    if kind == b'x' {
-        return whole(gives(Event::Closed(connection)), 0, connection, length);
-    }
-    if kind == b'r' {
-        return whole(more(Frame::Reading(connection)), 1, connection, length);
-    }
-    if kind == b'w' {
-        return whole(wait_step(connection, 0, 0), 4, connection, length);
-    }
-    if kind == b'c' {
-        return whole(gives(Event::Carriers), 0, connection, length);
-    }
-    if kind == b'l' {
-        return whole(gives(Event::Levels), 0, connection, length);
-    }
-    if kind == b'd' {
-        return whole(gives(Event::Due), 0, connection, length);
-    }
-    other(connection, 0, length)
-}
-
-// A byte as a number.
-fn wide(b: u8) -> u64
-    ensures { result ≡ b }
-{
-    b as u64
-}
-
-fn length_of(high: u8, low: u8) -> usize
-    ensures { result ≡ high * 256 + low }
-{
-    high as usize * 256 + low as usize
 }
 
 impl Frame {
     // A piece of which so many bytes are to come.
+    #[tactic(auto, unfolding(crate::specs::Read::piece_of))]
     pub fn piece_of(connection: u8, left: usize) -> Frame
         ensures { result ≡ piece_of connection left }
     {
@@ -243,6 +180,7 @@ impl Frame {
     }
 
     // A frame that is passed over, of which so many bytes are to come.
+    #[tactic(auto, unfolding(crate::specs::Read::passing))]
     pub fn passing(left: usize) -> Frame
         ensures { result ≡ passing left }
     {
@@ -256,29 +194,14 @@ impl Frame {
         ensures { result ≡ part_of self }
     {
         match self {
-            Frame::Between => Part::Head,
-            Frame::Kind(_) => Part::Head,
-            Frame::Connection {
-                kind: _,
-                connection: _,
-            } => Part::Head,
-            Frame::High {
-                kind: _,
-                connection: _,
-                high: _,
-            } => Part::Head,
             Frame::Piece { connection, left } => Part::Piece { connection, left },
-            Frame::Reading(_) => Part::Head,
-            Frame::Wait {
-                connection: _,
-                come: _,
-                number: _,
-            } => Part::Head,
             Frame::Over(left) => Part::Over(left),
+            _ => Part::Head,
         }
     }
 
     // One byte more.
+    #[tactic(auto, unfolding(crate::specs::Read::next_step))]
     pub fn next(self, b: u8) -> Step
         requires { SoundFrame self }
         ensures { result ≡ next_step self b }
@@ -298,14 +221,14 @@ impl Frame {
                 kind,
                 connection,
                 high,
-            } => head_step(kind, connection, length_of(high, b)),
+            } => head_step(kind, connection, usize::from(high) * 256 + usize::from(b)),
             Frame::Piece { connection, left } => more(Frame::piece_of(connection, left - 1)),
             Frame::Reading(port) => gives(Event::Reading { port, value: b }),
             Frame::Wait {
                 connection,
                 come,
                 number,
-            } => wait_step(connection, come + 1, number * 256 + wide(b)),
+            } => wait_step(connection, come + 1, number * 256 + u64::from(b)),
             Frame::Over(left) => more(Frame::passing(left - 1)),
         }
     }
@@ -316,25 +239,23 @@ impl Frame {
         ensures { result ≡ read_of self s.now }
     {
         let mut frame = self;
-        let mut i = 0;
-        while i < s.len() {
-            let step = frame.next(s[i]);
-            i += 1;
+        let mut used = 0;
+        for &b in s {
+            let step = frame.next(b);
+            used += 1;
             if !goes_on(step) {
-                let last = step.frame;
-                let event = step.event;
                 return Read {
-                    frame: last,
-                    event,
-                    used: i,
+                    frame: step.frame,
+                    event: step.event,
+                    used,
                 };
             }
             frame = step.frame;
         }
         Read {
             frame,
-            event: Event::Nothing,
-            used: i,
+            event: None,
+            used,
         }
     }
 }

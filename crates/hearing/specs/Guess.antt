@@ -1,6 +1,6 @@
 -- A first reading of a line, as of a reply that was well written: every module and port has one digit, so that all stands at its place. It
 -- need not be believed: what it gives is written out and compared with the line.
-use Rattle.std.specs.Prelude.{ℕ, ◌+◌, ◌-◌, ◌%◌, cond, ◌&&◌, List, [], ◌∷◌, eqb, length, take, get_or}
+use Rattle.std.specs.Prelude.{ℕ, ◌+◌, ◌-◌, ◌%◌, cond, ◌&&◌, Option, Some, None, List, [], ◌∷◌, eqb, length, take, get_or}
 use Rattle.laws.specs.Checks.{◌⇒◌, first}
 use Rattle.laws.specs.Lists.{same}
 use Rattle.text.specs.Number.{number_at}
@@ -8,8 +8,7 @@ use Rattle.text.specs.Field.{after_comma}
 use Rattle.text.specs.declared.number.Number.{Number}
 use Rattle.text.specs.declared.number.Number.TheVariants as number
 use Rattle.request.specs.declared.Place.{Place}
-use Rattle.request.specs.declared.mode.ModeRead.{ModeRead}
-use Rattle.request.specs.declared.mode.ModeRead.TheVariants as mode
+use Rattle.request.specs.declared.mode.Mode.{Mode as AMode}
 use Rattle.request.specs.Place.{place_of}
 use Rattle.request.specs.Mode.{mode_at}
 use Rattle.logger.specs.declared.Device.{Device}
@@ -33,9 +32,9 @@ value_of (number.Value v end) = v
 unfoldable pub value_at : List ℕ → ℕ → ℕ
 value_at s at = value_of (number_at s at)
 
-abbrev pub mode_read : Place → ModeRead → Heard
-mode_read a mode.Unknown = NotReply
-mode_read a (mode.Known m end) = Mode a m
+abbrev pub mode_read : Place → Option (AMode × ℕ) → Heard
+mode_read a None = NotReply
+mode_read a (Some (m, end)) = Mode a m
 
 unfoldable pub mode_guess : List ℕ → Heard
 mode_guess s = mode_read (place_at s 3) (mode_at s 7)

@@ -4,7 +4,6 @@ ghost use Rattle.hearing.specs.Guess.{digit_at, place_at, value_at, mode_guess, 
 
 use logger::{Device, Heard};
 use request::Place;
-use request::mode::ModeRead;
 use text::field::{after_comma, byte_at};
 use text::number::Number;
 
@@ -38,12 +37,13 @@ fn value_at(s: &[u8], at: usize) -> u64
 }
 
 // IR,m:p,mode
+#[tactic(auto, unfolding(crate::specs::Guess::mode_guess))]
 fn mode_guess(s: &[u8]) -> Heard
     ensures { result ≡ mode_guess s.now }
 {
     match request::mode::mode_at(s, 7) {
-        ModeRead::Unknown => Heard::NotReply,
-        ModeRead::Known(mode, _) => Heard::Mode(place_at(s, 3), mode),
+        None => Heard::NotReply,
+        Some((mode, _)) => Heard::Mode(place_at(s, 3), mode),
     }
 }
 

@@ -8,6 +8,7 @@ use lib.Dec.{eqb}
 use lib.ListN.{length, get_or, set}
 use lib.Seq.{set-get_or}
 use borrow.Author.Tests.{eq-eqb, eqb-true}
+use Rattle.std.proofs.Common.{Option, Some, None}
 use Rattle.laws.specs.Put.{over}
 use Rattle.laws.specs.Lists.{up_from, gathered}
 use Rattle.laws.proofs.Choice.{not_both, cond_case}
@@ -19,8 +20,6 @@ use Rattle.meaning.specs.Log.{until}
 use Rattle.request.specs.declared.mode.Mode.TheVariants.{Ir}
 use Rattle.connector.specs.declared.Connector.{Connector}
 use Rattle.connector.specs.declared.Answer.{Answer}
-use Rattle.connector.specs.declared.Change.{Change}
-use Rattle.connector.specs.declared.Change.TheVariants as becoming
 use Rattle.connector.specs.declared.Stepped.{Stepped}
 use Rattle.connector.specs.Record.{fresh_connector, changed}
 use Rattle.steps.specs.Step.{Made}
@@ -146,12 +145,12 @@ module _ (t : ℕ) (K : ℕ → Known) (R : ℕ → ℕ) where
     relayed l = record { connectors = l; relays = map (λ j. R (suc j)) (up_from 0 relays) }
 
     -- its change applied to the hub
-    changed_hub : (ch : Change) → changed (shown t x) ch ≡ shown t (g x)
+    changed_hub : (ch : Option Connector) → changed (shown t x) ch ≡ shown t (g x)
         → applied (hub_of t K R) (change_in slot ch) ≡ hub_of t (changed_at (suc slot) g K) R
-    changed_hub becoming.Nothing e =
+    changed_hub None e =
         ap relayed
         (sym (set-get_or shown_all slot (fresh_connector Ir)) ∙ put (get_or shown_all slot (fresh_connector Ir)) (connector_at_law slot within ∙ e))
-    changed_hub (becoming.Becomes c) e = ap relayed (put c e)
+    changed_hub (Some c) e = ap relayed (put c e)
 
     -- the counts in the other slots stay
     changed_held : (store : List ℕ) → HeldIn (kept_at store slot) (until t (g x).sending)

@@ -8,6 +8,7 @@ use mathlib.Core.Option.{Option, none, some}
 use native.Mathlib.Omega.{arith}
 use lib.Dec.{ltb}
 use lib.ListN.{length, take}
+use Rattle.std.proofs.Common as std
 use Rattle.laws.specs.Put.{stored_in}
 use Rattle.laws.proofs.Choice.{by_test, cond_case}
 use Rattle.laws.proofs.Numbers.{numbers_part}
@@ -31,12 +32,9 @@ use Rattle.store.proofs.Kept.{kept_size, kept_found}
 use Rattle.waveform.specs.Paced.{Fit}
 use Rattle.waveform.proofs.Paced.{started_runs, renewed_runs}
 use Rattle.connector.specs.declared.Owner.TheVariants.{Connection}
-use Rattle.connector.specs.declared.Contact.{Contact}
-use Rattle.connector.specs.declared.Contact.TheVariants.{Unread, Read}
 use Rattle.connector.specs.declared.Connector.{Connector}
 use Rattle.connector.specs.declared.Answer.{Answer}
 use Rattle.connector.specs.declared.Answer.TheVariants as answer
-use Rattle.connector.specs.declared.Change.TheVariants as becoming
 use Rattle.connector.specs.declared.Stepped.{Stepped}
 use Rattle.connector.specs.Record.{changed, stepping}
 use Rattle.connector.specs.Change as change
@@ -61,11 +59,11 @@ pub record StepMeans (t : ℕ) (a : Answer) (x y : Known) (made : Made) : Type 0
   pub held : HeldIn made.kept (until t y.sending)
 
 -- an answer that changes nothing
-still : {t : ℕ} {x : Known} (a : Answer) → Steps t a x x (stepping a becoming.Nothing)
+still : {t : ℕ} {x : Known} (a : Answer) → Steps t a x x (stepping a std.None)
 still a = record { said = refl; becomes = refl }
 
 -- another record
-anew : {t : ℕ} {x y : Known} (a : Answer) (c : Connector) → c ≡ shown t y → Steps t a x y (stepping a (becoming.Becomes c))
+anew : {t : ℕ} {x y : Known} (a : Answer) (c : Connector) → c ≡ shown t y → Steps t a x y (stepping a (std.Some c))
 anew a c e = record { said = refl; becomes = e }
 
 -- ---- a reading
@@ -99,9 +97,9 @@ module _ (t : ℕ) (x : Known) (fit : FitFor t x.sending) (kept : List ℕ) (siz
       (anew (reply_alone (reply.Mode place mode)) (change.with_mode (shown t x) mode) (sym (with_mode_shown t x mode e))))))
 
   -- a contact as it is
-  contact_means : (c : Contact) → StepMeans t (contact_said place c) x x (keeping (step.contact_says place c) kept)
-  contact_means Unread = keeps held (still (error_line 28 place))
-  contact_means (Read value) = keeps held (still (reply_alone (reply.State place value)))
+  contact_means : (c : std.Option ℕ) → StepMeans t (contact_said place c) x x (keeping (step.contact_says place c) kept)
+  contact_means std.None = keeps held (still (error_line 28 place))
+  contact_means (std.Some value) = keeps held (still (reply_alone (reply.State place value)))
 
   -- getstate
   get_contact_means : StepMeans t (ask_said t connection text place x ask.GetContact) x x (keeping (step.get_contact (shown t x) place) kept)

@@ -6,6 +6,7 @@ use native.Mathlib.Omega.{arith}
 use borrow.Author.Tests.{ltb-false}
 use lib.Dec.{ltb}
 use lib.ListN.{get_or-replicate}
+use Rattle.std.proofs.Common.{Option, Some, None}
 use Rattle.laws.proofs.Choice.{cond_case}
 use Rattle.laws.proofs.Parts.{stored_at}
 use Rattle.laws.proofs.Slots.{made_in}
@@ -22,8 +23,6 @@ use Rattle.request.specs.Request.{read_request}
 use Rattle.request.specs.Accepted.{TurnWithin, Within}
 use Rattle.request.proofs.Accepted.{within}
 use Rattle.connector.specs.declared.Connector.{Connector}
-use Rattle.connector.specs.declared.Change.{Change}
-use Rattle.connector.specs.declared.Change.TheVariants as one
 use Rattle.connector.specs.Record.{fresh_connector, SoundConnector, SoundChange}
 use Rattle.connector.specs.Change.{disowned}
 use Rattle.connector.specs.Pass.{after}
@@ -75,14 +74,14 @@ applied_sound {h} (change.Relay slot state) s k =
 -- ---- what a connector's change is in the hub
 
 -- it is sound where the connector is
-changed_sound : (slot : ℕ) (x : Change) → SoundChange x → SoundHubChange (change_in slot x)
-changed_sound slot one.Nothing k = tt
-changed_sound slot (one.Becomes c) k = k
+changed_sound : (slot : ℕ) (x : Option Connector) → SoundChange x → SoundHubChange (change_in slot x)
+changed_sound slot None k = tt
+changed_sound slot (Some c) k = k
 
 -- its slot is that of the connector
-changed_in_range : (slot : ℕ) (x : Change) → slot < connectors → InRange (change_in slot x)
-changed_in_range slot one.Nothing less = tt
-changed_in_range slot (one.Becomes c) less = less
+changed_in_range : (slot : ℕ) (x : Option Connector) → slot < connectors → InRange (change_in slot x)
+changed_in_range slot None less = tt
+changed_in_range slot (Some c) less = less
 
 -- ---- the calls that reach every connector
 

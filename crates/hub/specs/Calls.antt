@@ -1,5 +1,5 @@
 -- The calls beside lines that take no time, and the questions about carriers and levels.
-use Rattle.std.specs.Prelude.{ℕ, ◌-◌, ◌≡◌, Bool, cond, List, [], ◌∷◌, map, ltb, length}
+use Rattle.std.specs.Prelude.{ℕ, ◌-◌, ◌≡◌, Bool, cond, Result, Ok, Err, List, [], ◌∷◌, map, ltb, length}
 use Rattle.laws.specs.Checks.{◌⇒◌, first}
 use Rattle.laws.specs.Put.{over}
 use Rattle.words.specs.Places.{connectors}
@@ -16,8 +16,6 @@ use Rattle.connector.specs.Carrier.{carrier_of}
 use Rattle.hub.specs.declared.Decided.{Decided}
 use Rattle.hub.specs.declared.Moved.{Moved}
 use Rattle.hub.specs.declared.Hub.{Hub}
-use Rattle.hub.specs.declared.Written.{Written}
-use Rattle.hub.specs.declared.Written.TheVariants.{Refused, Line}
 use Rattle.hub.specs.Record.{slots, in_slot, connector_at, kept_at}
 use Rattle.hub.specs.Line.{refusal, placed}
 
@@ -59,6 +57,6 @@ levels_of h = all_levels h.connectors
 abbrev pub completion_text : Completion → List ℕ
 completion_text c = reply_text (Complete c.place c.id)
 
-pub record CompletionWritten (c : Completion) (before : List ℕ) (r : Written) (after : List ℕ) : Type 0 where
-  pub result : r ≡ cond (ltb (length before) 128) (Refused 101) (Line (length (completion_text c)))
+pub record CompletionWritten (c : Completion) (before : List ℕ) (r : Result ℕ ℕ) (after : List ℕ) : Type 0 where
+  pub result : r ≡ cond (ltb (length before) 128) (Err 101) (Ok (length (completion_text c)))
   pub laid : after ≡ cond (ltb (length before) 128) before (over before 0 (completion_text c))

@@ -1,6 +1,6 @@
 -- A line's answer. Document 01: "Order for a line: 102, 101, 015, 001, 017 for the address, 002, 003, then by request". All up to what
 -- depends on a connector is the reading of the line; what is asked of a connector is that connector's step.
-use Rattle.std.specs.Prelude.{ℕ, ◌-◌, ◌*◌, ◌≡◌, List, [], ◌∷◌, ltb, length}
+use Rattle.std.specs.Prelude.{ℕ, ◌-◌, ◌*◌, ◌≡◌, Option, Some, None, List, [], ◌∷◌, ltb, length}
 use Rattle.laws.specs.Checks.{◌⇒◌, first}
 use Rattle.laws.specs.Put.{over}
 use Rattle.request.specs.declared.Place.{Place}
@@ -16,8 +16,7 @@ use Rattle.reply.specs.Reply.{reply_text}
 use Rattle.connector.specs.declared.Owner.TheVariants.{Nobody}
 use Rattle.connector.specs.declared.Answer.{Answer}
 use Rattle.connector.specs.declared.Answer.TheVariants as answer
-use Rattle.connector.specs.declared.Change.{Change}
-use Rattle.connector.specs.declared.Change.TheVariants as one
+use Rattle.connector.specs.declared.Connector.{Connector}
 use Rattle.connector.specs.declared.Stepped.{Stepped}
 use Rattle.steps.specs.Step.{Made, step_of}
 use Rattle.hub.specs.declared.Decided.{Decided}
@@ -57,9 +56,9 @@ abbrev pub refusal : ℕ → Decided
 refusal number = deciding (answer.Refused number) change.Nothing
 
 -- ---- what is asked of a connector: its step, and what that changes of the hub
-abbrev pub change_in : ℕ → Change → HubChange
-change_in slot one.Nothing = change.Nothing
-change_in slot (one.Becomes c) = change.Connector slot c
+abbrev pub change_in : ℕ → Option Connector → HubChange
+change_in slot None = change.Nothing
+change_in slot (Some c) = change.Connector slot c
 
 abbrev pub placed : ℕ → Stepped → Decided
 placed slot s = deciding s.answer (change_in slot s.change)

@@ -3,7 +3,7 @@ ghost use Rattle.std.specs.Prelude.{◌≡◌, ◌≤◌, length};
 ghost use Rattle.hub.specs.Line.{says, fails, refusal, placed, answered_of, Laid, Writes};
 
 use crate::{Answer, Answered, Decided, HubChange};
-use connector::{Change, Owner, Stepped};
+use connector::{Owner, Stepped};
 use reply::Reply;
 use request::Place;
 
@@ -55,11 +55,11 @@ pub fn placed(slot: usize, stepped: Stepped) -> Decided
     let answer = stepped.answer;
     let change = stepped.change;
     match change {
-        Change::Nothing => Decided {
+        None => Decided {
             answer,
             change: HubChange::Nothing,
         },
-        Change::Becomes(connector) => Decided {
+        Some(connector) => Decided {
             answer,
             change: HubChange::Connector { slot, connector },
         },

@@ -11,7 +11,7 @@ ghost use Rattle.hub.specs.Wait.{wait_call};
 
 pub use crate::completions::Completions;
 use code::Code;
-pub use connector::{Answer, Completion, Connector, Contact, Owner, Run, Sending};
+pub use connector::{Answer, Completion, Connector, Owner, Run};
 use pace::Micros;
 use reply::Reply;
 use request::Place;
@@ -62,13 +62,6 @@ pub struct Waited {
     pub answer: Answer,
     pub hub: Hub,
     pub completions: Completions,
-}
-
-// A line that was written, with its length, or a refusal.
-#[derive(Clone, Copy)]
-pub enum Written {
-    Refused(u64),
-    Line(usize),
 }
 
 impl Hub {
@@ -216,19 +209,15 @@ impl Hub {
         }
     }
 
-    // Writes a completion's line.
-    pub fn write_completion(completion: Completion, buf: &mut [u8]) -> Written
+    // Writes a completion's line: its length, or the number of a refusal.
+    pub fn write_completion(completion: Completion, buf: &mut [u8]) -> Result<usize, u64>
         ensures { CompletionWritten completion buf.old result buf.new }
     {
         if buf.len() < Reply::ROOM {
-            return Written::Refused(101);
+            return Err(101);
         }
-        let place = completion.place;
-        let reply = Reply::Complete {
-            place,
-            id: completion.id,
-        };
-        Written::Line(reply::put_reply(buf, reply))
+        let Completion { place, id, .. } = completion;
+        Ok(reply::put_reply(buf, Reply::Complete { place, id }))
     }
 }
 

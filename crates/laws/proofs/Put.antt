@@ -1,12 +1,13 @@
 -- Laws of text that is laid over what lent memory holds.
 use Prim.Native.Nat.{ℕ, ◌+◌, ◌≤◌, ◌<◌}
 use mathlib.Core.Path.{◌≡◌, refl, sym, ap, ◌∙◌}
-use mathlib.Core.List.{List, [], ◌∷◌, ◌++◌, append-nil}
+use mathlib.Core.List.{List, [], ◌∷◌, ◌++◌, append_assoc, append-nil}
 use native.Mathlib.Omega.{arith}
 use native.Mathlib.Nat.{add-zero}
 use native.Mathlib.Numerals.{add-one}
 use lib.ListN.{length, take, drop, get_or, set, length-append, take-append-drop}
-use lib.Seq.{sets, sets-eq, length-sets, length-take-le, take_at, drop-cons}
+use borrow.Rule.Slice.PartMut.{put_mid}
+use lib.Seq.{sets, sets-eq, length-sets, length-take-le, take_at, drop-cons, drop-drop}
 use Rattle.laws.specs.Put.{over, Put}
 use Rattle.laws.proofs.Lists.{sets_append}
 
@@ -59,3 +60,8 @@ byte b at v h = stored refl (omega arith) refl
 -- a turn of a loop that copies w
 pub copy_more : (b w : List ℕ) (o j : ℕ) → j < length w → sets b o (drop j w) ≡ sets (set b o (get_or w j 0)) (o + 1) (drop (j + 1) w)
 copy_more b w o j h = rw (drop-cons w j 0, add-one j, add-one o)
+
+-- a part of memory, given back as w
+pub part_over : (b w x : List ℕ) (at n : ℕ) → x ≡ w → n ≡ length w → put_mid at n b x ≡ over b at w
+unfolding over
+part_over b w x at n e l = ap (λ (t : List ℕ). take at b ++ t) (λ i. e i ++ (drop-drop n at b ∙ ap (λ m. drop (at + m) b) l) i) ∙ sym (append_assoc (take at b) w _)

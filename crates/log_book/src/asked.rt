@@ -5,7 +5,7 @@ use crate::item::{Counts, NumberRead, PlaceRead};
 use crate::{item, scan};
 use command::given::{Command, Given};
 use composer::Wish;
-use request::mode::ModeRead;
+use request::mode::Mode;
 use request::{Fixed, Place};
 use writer::Form;
 
@@ -33,18 +33,10 @@ fn fixed(s: &[u8], end: usize, fixed: Fixed) -> Asked {
     }
 }
 
-fn mode_of(word: &[u8]) -> ModeRead {
-    match request::mode::mode_at(word, 0) {
-        ModeRead::Unknown => ModeRead::Unknown,
-        ModeRead::Known(mode, end) => {
-            // a word may have a comma, which ends the mode of a request
-            if end == word.len() {
-                ModeRead::Known(mode, end)
-            } else {
-                ModeRead::Unknown
-            }
-        }
-    }
+fn mode_of(word: &[u8]) -> Option<Mode> {
+    let (mode, end) = request::mode::mode_at(word, 0)?;
+    // a word may have a comma, which ends the mode of a request
+    if end == word.len() { Some(mode) } else { None }
 }
 
 // set_IR M P MODE: the mode is the line's last item, and any word.
@@ -63,8 +55,8 @@ fn set_mode(s: &[u8], at: usize, place: Place) -> Asked {
         return Asked::Other;
     }
     match mode_of(&s[from..]) {
-        ModeRead::Unknown => Asked::NoMode(place),
-        ModeRead::Known(mode, _) => Asked::Wish(Wish::SetMode(place, mode)),
+        None => Asked::NoMode(place),
+        Some(mode) => Asked::Wish(Wish::SetMode(place, mode)),
     }
 }
 

@@ -1,6 +1,5 @@
 // What is to be written, put behind what there is as far as there is room. A turn begins with room for all that it can say.
 use crate::scan;
-use composer::Composed;
 use itoa::Buffer;
 use logger::tally::Average;
 use logger::{Device, Heard};
@@ -145,10 +144,10 @@ fn put_request(out: &mut [u8], used: usize, size: usize) -> usize {
 }
 
 // A request that was composed where it is to stand, or its refusal.
-pub fn put_composed(out: &mut [u8], used: usize, composed: Composed) -> usize {
+pub fn put_composed(out: &mut [u8], used: usize, composed: Result<usize, u64>) -> usize {
     match composed {
-        Composed::Refused(number) => put_refusal(out, used, number),
-        Composed::Line(size) => put_request(out, used, size),
+        Err(number) => put_refusal(out, used, number),
+        Ok(size) => put_request(out, used, size),
     }
 }
 
@@ -160,7 +159,7 @@ pub fn flush(rt: &impl Print, out: &[u8], used: usize) {
 // Where the next turn begins to write: there is room for a request, which is the longest that it can say, or it is made.
 pub fn with_room(rt: &impl Print, out: &[u8], used: usize) -> usize {
     if used < out.len() {
-        if Composed::ROOM <= out.len() - used {
+        if composer::ROOM <= out.len() - used {
             return used;
         }
     }

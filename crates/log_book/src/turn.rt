@@ -7,7 +7,7 @@ use crate::book::Book;
 use crate::item::PlaceRead;
 use crate::{asked, item, output, scan};
 use command::given::Command;
-use composer::{Composed, Wish};
+use composer::Wish;
 use logger::Heard;
 use request::Place;
 use text::field::byte_at;
@@ -64,8 +64,8 @@ fn compose(wish: Wish, out: &mut [u8], used: usize) -> usize {
 fn no_mode(place: Place, out: &mut [u8], used: usize) -> usize {
     let from = scan::within(out, used);
     match composer::compose::compose(&mut out[from..], Wish::GetMode(place)) {
-        Composed::Refused(number) => output::put_refusal(out, from, number),
-        Composed::Line(_) => output::put_refusal(out, from, 23),
+        Err(number) => output::put_refusal(out, from, number),
+        Ok(_) => output::put_refusal(out, from, 23),
     }
 }
 

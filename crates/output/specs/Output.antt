@@ -1,7 +1,7 @@
 -- What comes out: the frames of each answer. docs/PORT-OTHER.md: "A line is answered at its CR: a `b` to the asker, a second `b` with the same bytes to
 -- the owner of a halted transmission if that is another connection, then an `s` where the line was carried out on a connector or a relay". "A
 -- sendir that is taken has no `b`."
-use Rattle.std.specs.Prelude.{ℕ, ◌+◌, Bool, true, false, List, [], ◌∷◌, ◌++◌, map, take}
+use Rattle.std.specs.Prelude.{ℕ, ◌+◌, Bool, true, false, Option, Some, None, List, [], ◌∷◌, ◌++◌, map, take}
 use Rattle.request.specs.declared.mode.Mode.{Mode}
 use Rattle.request.specs.declared.mode.Mode.TheVariants.{Ir, Sensor, IrBlaster, LedLighting}
 use Rattle.reply.specs.Reply.{reply_text}
@@ -9,8 +9,7 @@ use Rattle.connector.specs.declared.Owner.{Owner}
 use Rattle.connector.specs.declared.Owner.TheVariants as owner
 use Rattle.connector.specs.declared.Answer.{Answer}
 use Rattle.connector.specs.declared.Answer.TheVariants as answer
-use Rattle.connector.specs.declared.Sending.{Sending}
-use Rattle.connector.specs.declared.Sending.TheVariants.{Idle, Running}
+use Rattle.connector.specs.declared.Run.{Run}
 use Rattle.connector.specs.declared.Connector.{Connector}
 use Rattle.connector.specs.declared.Completion.{Completion}
 use Rattle.hub.specs.declared.HubChange.{HubChange}
@@ -42,15 +41,15 @@ mode_number Sensor = 1
 mode_number IrBlaster = 2
 mode_number LedLighting = 3
 
-abbrev pub transmits : Sending → ℕ
-transmits Idle = 0
-transmits (Running run) = 1
+abbrev pub transmits : Option Run → ℕ
+transmits None = 0
+transmits (Some run) = 1
 
-abbrev pub id_of : Sending → ℕ
-id_of Idle = 0
-id_of (Running run) = run.fields.id
+abbrev pub id_of : Option Run → ℕ
+id_of None = 0
+id_of (Some run) = run.fields.id
 
-abbrev pub sending_bytes : Sending → List ℕ
+abbrev pub sending_bytes : Option Run → List ℕ
 sending_bytes s = transmits s ∷ two_bytes (id_of s)
 
 abbrev pub connector_frame : ℕ → ℕ → Connector → List ℕ

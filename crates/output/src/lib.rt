@@ -9,7 +9,7 @@ ghost use Rattle.frames.specs.Layout.{low_byte, two_bytes, four_bytes, frame_of}
 ghost use Rattle.output.specs.Output.{refusal_frame, reply_frames, answer_frames, mode_number, sending_bytes, connector_frame, change_frames};
 ghost use Rattle.output.specs.Output.{to_whom, completion_frame, wait_frames, bit, carriers_frame, levels_frame, not_due_frame, due_frame};
 
-use hub::{Answer, Completion, Completions, Connector, Hub, HubChange, Owner, Sending};
+use hub::{Answer, Completion, Completions, Connector, Hub, HubChange, Owner, Run};
 use pace::Micros;
 use reply::Reply;
 use request::mode::Mode;
@@ -110,16 +110,16 @@ fn mode_number(mode: Mode) -> u8
 }
 
 // Whether it transmits, and the id.
-fn put_sending(out: &mut [u8], at: usize, sending: Sending) -> usize
+fn put_sending(out: &mut [u8], at: usize, sending: Option<Run>) -> usize
     requires { at + 3 ≤ length out.old }
     ensures { Put out.old at (sending_bytes sending) out.new result }
 {
     match sending {
-        Sending::Idle => {
+        None => {
             let a = put_byte(out, at, 0);
             put_two(out, a, 0)
         }
-        Sending::Running(run) => {
+        Some(run) => {
             let a = put_byte(out, at, 1);
             put_two(out, a, run.fields.id as u64)
         }

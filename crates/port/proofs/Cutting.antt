@@ -8,6 +8,7 @@ use lib.Dec.{eqb, ltb}
 use lib.ListN.{length, take, drop, get_or, length-set, take-append-drop, drop_of_length-le}
 use lib.Seq.{drop-drop, get_or-drop}
 use borrow.Author.Tests.{le-ltb, eq-eqb, ne_eqb, eqb-true, eqb-false}
+use Rattle.std.specs.Prelude.{Option, Some, None, is_none}
 use Rattle.laws.proofs.Choice.{cond_case, by_test, and_right, not_both}
 use Rattle.laws.proofs.Lists.{drop_next}
 use Rattle.server.specs.declared.Server.{Server}
@@ -22,7 +23,7 @@ use Rattle.frames.specs.declared.Frame.{Frame}
 use Rattle.frames.specs.declared.Frame.TheVariants as frame
 use Rattle.frames.specs.declared.Part.{Part}
 use Rattle.frames.specs.declared.Part.TheVariants as part
-use Rattle.frames.specs.Read.{piece_of, passing, part_of, is_head, is_nothing, next_step, goes_on, read_of}
+use Rattle.frames.specs.Read.{piece_of, passing, part_of, is_head, next_step, goes_on, read_of}
 use Rattle.output.specs.Output.{answer_frames, change_frames}
 use Rattle.port.specs.Event.{event_of}
 use Rattle.port.specs.Turn.{SoundState, fresh_state, state_of, Whole, whole, Turn, after, served, piece_turn, turn_of}
@@ -43,18 +44,18 @@ steady h = record { sound = h.sound.server; long = h.long; many = h.many }
 abbrev pub Bytes : List ℕ → Type 0
 Bytes s = (k : ℕ) → get_or s k 0 < 256
 
-event_many : (s : Server) (store : List ℕ) (e : Event) → length (event_of s store e).server.assemblers ≡ length s.assemblers
+event_many : (s : Server) (store : List ℕ) (e : Option Event) → length (event_of s store e).server.assemblers ≡ length s.assemblers
 unfolding event_of closed_call
-event_many s store event.Nothing = refl
-event_many s store (event.Closed connection) =
+event_many s store None = refl
+event_many s store (Some (event.Closed connection)) =
     cond_case (λ (x : Served). length x.server.assemblers ≡ length s.assemblers) (ltb 7 connection) _ _ (λ _. refl)
     (λ _. length-set s.assemblers connection _)
-event_many s store (event.Reading port value) = refl
-event_many s store (event.Wait connection n) = refl
-event_many s store event.Carriers = refl
-event_many s store event.Levels = refl
-event_many s store event.Due = refl
-event_many s store (event.Refused connection number) = refl
+event_many s store (Some (event.Reading port value)) = refl
+event_many s store (Some (event.Wait connection n)) = refl
+event_many s store (Some event.Carriers) = refl
+event_many s store (Some event.Levels) = refl
+event_many s store (Some event.Due) = refl
+event_many s store (Some (event.Refused connection number)) = refl
 
 piece_many : (s : Server) (store buffers : List ℕ) (connection : ℕ) (p : List ℕ) (room : ℕ)
     → length (piece_step s store buffers connection p room).served.server.assemblers ≡ length s.assemblers
@@ -110,7 +111,7 @@ unfolding turn_of event_of
 head_first s f store buffers b block head =
     by_test (goes_on (next_step f b))
     (λ on.
-    let still = head_is (part_of (next_step f b).frame) (and_right (is_nothing (next_step f b).event) (is_head (part_of (next_step f b).frame)) on) in
+    let still = head_is (part_of (next_step f b).frame) (and_right (is_none (next_step f b).event) (is_head (part_of (next_step f b).frame)) on) in
     more (rw (head, on, still)) (rw (head, on)))
     (λ stop. alone (rw (head, stop)))
 

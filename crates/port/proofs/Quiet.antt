@@ -100,7 +100,4 @@ module _ {before out : List ℕ} {at end : ℕ} where
         server = ap (λ (y : WaitServed). y.server) e;
         put = subst (λ (y : WaitServed). Put before at (answer_frames connection y.answer ++ wait_frames y.completions) out end) e p;
       }
-
   -- the frame of what a question returned
-  pub told : {A : Type 0} (frame : A → List ℕ) (y : A) {x : A} → x ≡ y → Put before at (frame x) out end → Put before at (frame y) out end
-  told frame y e p = subst (λ k. Put before at (frame k) out end) e p

@@ -7,6 +7,7 @@ use native.Mathlib.Omega.{arith}
 use lib.ListN.{length, drop, length-drop}
 use lib.Seq.{take-length, get_or-drop}
 use borrow.Author.Tests.{le-ltb}
+use Rattle.std.specs.Prelude.{Option, Some, None}
 use Rattle.laws.proofs.Choice.{by_test}
 use Rattle.pace.specs.Pace.{micros}
 use Rattle.server.specs.declared.Server.{Server}
@@ -31,7 +32,7 @@ use Rattle.port.proofs.Cutting.{Held, Bytes, AllBytes, turn_held, piece_on, turn
 -- ---- a turn over the bytes of a head
 
 -- what is read of it, and the event answered
-head_turn : (s : Server) (store buffers : List ℕ) (bytes : List ℕ) (f : Frame) (e : Event) (n : ℕ)
+head_turn : (s : Server) (store buffers : List ℕ) (bytes : List ℕ) (f : Frame) (e : Option Event) (n : ℕ)
     → read_of frame.Between bytes ≡ record { frame = f; event = e; used = n }
     → turn_of (between s store buffers) bytes
     ≡ leaving (between s store buffers) (record { state = state_of (event_of s store e).server f; used = n; text = (event_of s store e).text })
@@ -39,7 +40,7 @@ unfolding turn_of
 head_turn s store buffers bytes f e n r = rw r
 
 -- a run of bytes that is read whole
-head_written : (s : Server) (store buffers : List ℕ) (b : ℕ) (rest : List ℕ) (f : Frame) (e : Event) → Held (between s store buffers) → Bytes (b ∷ rest)
+head_written : (s : Server) (store buffers : List ℕ) (b : ℕ) (rest : List ℕ) (f : Frame) (e : Option Event) → Held (between s store buffers) → Bytes (b ∷ rest)
     → read_of frame.Between (b ∷ rest) ≡ record { frame = f; event = e; used = length (b ∷ rest) }
     → written (b ∷ rest) (between s store buffers) ≡ writes (event_of s store e).text (whole (state_of (event_of s store e).server f) store buffers)
 head_written s store buffers b rest f e h bytes r =
@@ -58,13 +59,13 @@ piece_head connection length c = rw (le-ltb 7 connection c)
 
 -- the last byte of it
 last_read : (kind connection high low : ℕ) (f : Frame) → head_step kind connection (high * 256 + low) ≡ more f
-    → read_of (frame.High kind connection high) (low ∷ []) ≡ record { frame = f; event = event.Nothing; used = 1 }
+    → read_of (frame.High kind connection high) (low ∷ []) ≡ record { frame = f; event = None; used = 1 }
 unfolding next_step
 last_read kind connection high low f e = rw e (by_test (goes_on (more f)) (λ t. rw t) (λ t. rw t))
 
 piece_read : (connection : ℕ) (s : List ℕ) → connection ≤ 7 → length s ≤ 65535
     → read_of frame.Between (letter "b" ∷ connection ∷ two_bytes (length s))
-    ≡ record { frame = piece_of connection (length s); event = event.Nothing; used = 4 }
+    ≡ record { frame = piece_of connection (length s); event = None; used = 4 }
 unfolding next_step
 piece_read connection s c most =
     let e : length s / 256 % 256 * 256 + length s % 256 ≡ length s = omega arith in
@@ -107,7 +108,7 @@ piece_written_law : (connection : ℕ) (s : List ℕ) (server : Server) (store b
     → written (encoded (piece connection s)) (between server store buffers) ≡ piece_written connection (length s) s (between server store buffers)
 unfolding encoded event_of
 piece_written_law connection s server store buffers c most h each =
-    let head = head_written server store buffers (letter "b") (connection ∷ two_bytes (length s)) (piece_of connection (length s)) event.Nothing h
+    let head = head_written server store buffers (letter "b") (connection ∷ two_bytes (length s)) (piece_of connection (length s)) None h
     (front_bytes connection s each) (piece_read connection s c most) in
     let held : Held (inside server connection s store buffers) =
     record { sound = record { server = h.sound.server; frame = piece_sound connection (length s) c }; long = h.long; many = h.many } in
@@ -130,14 +131,14 @@ input_written_law : (i : Input) (s : Server) (store buffers : List ℕ) → Saya
     → written (encoded i) (between s store buffers) ≡ input_written i (between s store buffers)
 unfolding encoded next_step head_step read.whole read.wait_step
 input_written_law (piece connection bytes) s store buffers k h each = piece_written_law connection bytes s store buffers k.0 k.1 h each
-input_written_law (closed connection) s store buffers k h each = head_written s store buffers (letter "x") (connection ∷ 0 ∷ 0 ∷ []) frame.Between (event.Closed connection) h each refl
-input_written_law (reading port value) s store buffers k h each = head_written s store buffers (letter "r") (port ∷ 0 ∷ 1 ∷ value ∷ []) frame.Between (event.Reading port value) h each refl
+input_written_law (closed connection) s store buffers k h each = head_written s store buffers (letter "x") (connection ∷ 0 ∷ 0 ∷ []) frame.Between (Some (event.Closed connection)) h each refl
+input_written_law (reading port value) s store buffers k h each = head_written s store buffers (letter "r") (port ∷ 0 ∷ 1 ∷ value ∷ []) frame.Between (Some (event.Reading port value)) h each refl
 input_written_law (wait any n) s store buffers k h each =
-    head_written s store buffers (letter "w") (any ∷ 0 ∷ 4 ∷ four_bytes n) frame.Between (event.Wait any (micros n)) h each
-    (ap (λ m. record { frame = frame.Between; event = event.Wait any (micros m); used = 8 }) (four_read n k))
-input_written_law (carriers any) s store buffers k h each = head_written s store buffers (letter "c") (any ∷ 0 ∷ 0 ∷ []) frame.Between event.Carriers h each refl
-input_written_law (levels any) s store buffers k h each = head_written s store buffers (letter "l") (any ∷ 0 ∷ 0 ∷ []) frame.Between event.Levels h each refl
-input_written_law (due any) s store buffers k h each = head_written s store buffers (letter "d") (any ∷ 0 ∷ 0 ∷ []) frame.Between event.Due h each refl
+    head_written s store buffers (letter "w") (any ∷ 0 ∷ 4 ∷ four_bytes n) frame.Between (Some (event.Wait any (micros n))) h each
+    (ap (λ m. record { frame = frame.Between; event = Some (event.Wait any (micros m)); used = 8 }) (four_read n k))
+input_written_law (carriers any) s store buffers k h each = head_written s store buffers (letter "c") (any ∷ 0 ∷ 0 ∷ []) frame.Between (Some event.Carriers) h each refl
+input_written_law (levels any) s store buffers k h each = head_written s store buffers (letter "l") (any ∷ 0 ∷ 0 ∷ []) frame.Between (Some event.Levels) h each refl
+input_written_law (due any) s store buffers k h each = head_written s store buffers (letter "d") (any ∷ 0 ∷ 0 ∷ []) frame.Between (Some event.Due) h each refl
 
 -- what an input leaves is between two frames again
 pieces_left : (connection calls : ℕ) (bytes : List ℕ) (w : Whole) → w.state.frame ≡ frame.Between

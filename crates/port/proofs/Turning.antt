@@ -4,6 +4,7 @@ use mathlib.Core.Path.{◌≡◌, refl}
 use mathlib.Core.List.{List}
 use native.Mathlib.Omega.{arith}
 use lib.ListN.{length, take, get_or, length-take}
+use Rattle.std.specs.Prelude.{Option, Some, None}
 use Rattle.server.specs.declared.Server.{Server}
 use Rattle.server.specs.Record.{SoundServer, all_buffers}
 use Rattle.server.proofs.Keeps.{fresh_sound, piece_used, closed_sound, reading_sound, wait_sound}
@@ -22,16 +23,16 @@ use Rattle.port.proofs.Pieces.{piece_some, piece_buffers}
 pub fresh_state_law : SoundState fresh_state
 fresh_state_law = record { server = fresh_sound; frame = tt }
 
-event_sound : (s : Server) (store : List ℕ) (e : Event) → SoundServer s → SoundServer (event_of s store e).server
+event_sound : (s : Server) (store : List ℕ) (e : Option Event) → SoundServer s → SoundServer (event_of s store e).server
 unfolding event_of
-event_sound s store event.Nothing k = k
-event_sound s store (event.Closed connection) k = closed_sound s connection k
-event_sound s store (event.Reading port value) k = reading_sound s port value k
-event_sound s store (event.Wait connection n) k = wait_sound s n.0 k
-event_sound s store event.Carriers k = k
-event_sound s store event.Levels k = k
-event_sound s store event.Due k = k
-event_sound s store (event.Refused connection number) k = k
+event_sound s store None k = k
+event_sound s store (Some (event.Closed connection)) k = closed_sound s connection k
+event_sound s store (Some (event.Reading port value)) k = reading_sound s port value k
+event_sound s store (Some (event.Wait connection n)) k = wait_sound s n.0 k
+event_sound s store (Some event.Carriers) k = k
+event_sound s store (Some event.Levels) k = k
+event_sound s store (Some event.Due) k = k
+event_sound s store (Some (event.Refused connection number)) k = k
 
 -- a turn within a head or a number
 module _ (s : Server) (f : Frame) (store block : List ℕ) (k : SoundServer s) (sound : SoundFrame f) (bytes : (i : ℕ) → get_or block i 0 < 256) where

@@ -1,5 +1,5 @@
 -- What the port writes for an input: the frames that answer it, and what there is then, from between two frames to between two frames.
-use Rattle.std.specs.Prelude.{ℕ, zero, suc, List, [], ◌∷◌, ◌++◌, length, drop}
+use Rattle.std.specs.Prelude.{ℕ, zero, suc, Some, List, [], ◌∷◌, ◌++◌, length, drop}
 use Rattle.pace.specs.Pace.{micros}
 use Rattle.server.specs.declared.Server.{Server}
 use Rattle.server.specs.Piece.{piece_step}
@@ -17,7 +17,7 @@ between s store buffers = whole (state_of s Between) store buffers
 
 abbrev pub event_written : Event → Whole → Written
 event_written e w =
-    let x = event_of w.state.server w.store e in
+    let x = event_of w.state.server w.store (Some e) in
     writes x.text (between x.server w.store w.buffers)
 
 -- A piece: calls, each on what the one before has left of it, until nothing is left. Each uses a byte at least, so that as many calls as the

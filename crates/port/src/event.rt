@@ -11,7 +11,7 @@ use output::{
     put_answer, put_carriers, put_completions, put_due, put_levels, put_not_due, put_refusal,
 };
 use pace::Micros;
-use server::{Due, Server};
+use server::Server;
 
 // The server after an event, and the place behind its frames.
 #[derive(Clone, Copy)]
@@ -67,17 +67,27 @@ fn put_next(server: Server, out: &mut [u8], at: usize) -> usize
     ensures { Put out.old at (due_frames (due_of server)) out.new result }
 {
     match server.due() {
-        Due::Nothing => put_not_due(out, at),
-        Due::In(n) => put_due(out, at, n),
+        None => put_not_due(out, at),
+        Some(n) => put_due(out, at, n),
     }
 }
 
-pub fn answered(server: Server, store: &Store, event: Event, out: &mut [u8], at: usize) -> Done
+// Where nothing is complete, nothing is answered.
+#[tactic(auto, unfolding(crate::specs::Event::event_of))]
+pub fn answered(
+    server: Server,
+    store: &Store,
+    event: Option<Event>,
+    out: &mut [u8],
+    at: usize,
+) -> Done
     requires { SoundServer server × (at + 512 ≤ length out.old) }
     ensures { Does (event_of server store.now event) out.old at result out.new }
 {
+    let Some(event) = event else {
+        return Done { server, end: at };
+    };
     match event {
-        Event::Nothing => Done { server, end: at },
         Event::Closed(connection) => closed(server, connection, out, at),
         Event::Reading { port, value } => reading(server, port, value, out, at),
         Event::Wait { connection, micros } => waited(server, connection, micros, out, at),

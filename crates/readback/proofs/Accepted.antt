@@ -8,6 +8,7 @@ use native.Mathlib.Omega.{arith}
 use borrow.Author.Tests.{le-leb, ltb-false, ne_eqb, not-false}
 use lib.Dec.{ltb, eqb}
 use lib.ListN.{length, take}
+use Rattle.std.proofs.Common.{Ok}
 use Rattle.laws.specs.Checks.{between}
 use Rattle.laws.specs.Lists.{all}
 use Rattle.laws.proofs.Choice.{by_test, cond_case, not_both, guard, and_true, between_most}
@@ -30,7 +31,6 @@ use Rattle.lines.proofs.Cutting.{lines_are}
 use Rattle.lines.proofs.Feeding.{feed_is_lines}
 use Rattle.composer.specs.declared.Wish.{Wish}
 use Rattle.composer.specs.declared.Wish.TheVariants as wish
-use Rattle.composer.specs.declared.Composed.TheVariants.{Line}
 use Rattle.composer.specs.Fault.{place_fault, sendir_fault, lamp_fault, wish_fault}
 use Rattle.composer.specs.Compose.{wish_text, wish_outcome, sendir_outcome, Composes}
 use Rattle.readback.specs.Composed.{request_of, Wide, WideWish}
@@ -104,7 +104,7 @@ wished (wish.Stop a) = refl
 wished (wish.SetLamp a target ramp) = refl
 wished (wish.GetLamp a) = refl
 
-module _ {before : List ℕ} (w : Wish) {after : List ℕ} {n : ℕ} (composed : Composes (wish_outcome (length before) w) before (Line n) after) where
+module _ {before : List ℕ} (w : Wish) {after : List ℕ} {n : ℕ} (composed : Composes (wish_outcome (length before) w) before (Ok n) after) where
   made : LineComposed (wish_fault w) (wish_text w) before after n
   made = line_composed (wish_fault w) (wish_text w) composed
 
@@ -121,7 +121,7 @@ module _ {before : List ℕ} (w : Wish) {after : List ℕ} {n : ℕ} (composed :
 -- ---- a sendir
 
 module _ {before : List ℕ} (form : Form) (c : Command) (counts : List ℕ) {after : List ℕ} {n : ℕ}
-    (composed : Composes (sendir_outcome (length before) form c counts) before (Line n) after) where
+    (composed : Composes (sendir_outcome (length before) form c counts) before (Ok n) after) where
   made_sendir : LineComposed (sendir_fault c counts) (sendir_text form c counts) before after n
   made_sendir = line_composed (sendir_fault c counts) (sendir_text form c counts) composed
 

@@ -6,6 +6,7 @@ use mathlib.Core.List.{List, [], ◌∷◌, ◌++◌, map}
 use native.Mathlib.Nat.{zero-add}
 use native.Mathlib.Omega.{arith}
 use borrow.Author.Tests.{lt-ltb, le-ltb, le-leb, lt-leb, ltb-true, ltb-false, ne_eqb, eqb-true}
+use Rattle.std.specs.Prelude.{Some, Ok, Err}
 use lib.Dec.{ltb, leb, eqb}
 use lib.ListN.{length}
 use Rattle.laws.specs.Checks.{between}
@@ -25,7 +26,6 @@ use Rattle.request.specs.declared.Place.{Place}
 use Rattle.request.specs.declared.name.Name.{Name}
 use Rattle.request.specs.declared.name.Name.TheVariants.{SetIr, GetIr, SetState, GetState, SendIr, StopIr, SetLamp, GetLamp}
 use Rattle.request.specs.declared.name.Word.TheVariants.{Named}
-use Rattle.request.specs.declared.name.WordRead.TheVariants.{Known}
 use Rattle.request.specs.Place.{place_of}
 use Rattle.request.specs.Name.{name_of, word_at}
 use Rattle.request.specs.Address.{beyond, has_module, address_fault}
@@ -68,7 +68,7 @@ module _ (a : Place) (m : Wide a.m) (port : Wide a.port) where
     module_same : between least most a.m ≡ true → counts (decimal a.m) ≡ a.m
     module_same e = counts_same a.m m (omega (arith, between_most least most a.m e))
 
-    place_fault_law : address_fault n taken ≡ place_fault least most a
+    place_fault_law : address_fault n taken ≡ cond (eqb (place_fault least most a) 0) (Ok tt) (Err (place_fault least most a))
     unfolding address_fault place_fault
     place_fault_law =
         rw (range (counts (decimal a.m)), counts_between a.m m least most small)
@@ -131,7 +131,7 @@ free_cut w (v ∷ ws) e =
     ∙ ap (λ (l : List (List ℕ)). w ∷ l) (free_cut v ws (and_right (free 44 w) _ e))
 
 -- ---- a name, an address and other fields
-name_read : (n : Name) (x : List ℕ) → word_at (name_of n ++ (44 ∷ x)) ≡ Known (Named n)
+name_read : (n : Name) (x : List ℕ) → word_at (name_of n ++ (44 ∷ x)) ≡ Some (Named n)
 unfolding word_at
 name_read SetIr x = refl
 name_read GetIr x = refl
@@ -174,7 +174,7 @@ module _ (a : Place) where
 
 -- a line of them
 pub record Line (s : List ℕ) (n : Name) (a : Place) (rest : List (List ℕ)) : Type 0 where
-  pub named : word_at s ≡ Known (Named n)
+  pub named : word_at s ≡ Some (Named n)
   pub cuts : cut 44 s ≡ name_of n ∷ address_of a ∷ rest
   pub printable : all is_printable s ≡ true
 

@@ -7,6 +7,7 @@ use native.Mathlib.Omega.{arith}
 use borrow.Author.Tests.{ltb-true, lt-ltb, le-ltb, le-leb}
 use lib.Dec.{ltb}
 use lib.ListN.{length, take}
+use Rattle.std.proofs.Common.{Ok, Err}
 use Rattle.laws.specs.Bytes.{bytes}
 use Rattle.laws.specs.Lists.{all}
 use Rattle.laws.specs.Put.{over}
@@ -32,7 +33,6 @@ use Rattle.command.specs.Given.{taken_as, command_given}
 use Rattle.command.proofs.Capping.{capped_high}
 use Rattle.reads.proofs.Codes.{means_accepted}
 use Rattle.writer.specs.declared.Form.{Form}
-use Rattle.writer.specs.declared.sendir.Written.TheVariants.{Refused, Line}
 use Rattle.writer.specs.CodeText.{items, code_text}
 use Rattle.writer.specs.Sendir.{sendir_head, sendir_line, Outcome, refused, line, command_outcome, outcome, Wrote}
 use Rattle.readback.specs.RoundTrip.{ReadsBack}
@@ -115,23 +115,23 @@ line_back room form c given text e =
 
 -- what holds of a line that the writer has to write holds of the buffer's bytes up to the length that it answered
 from_buffer : {before : List ℕ} {form : Form} {c : Command} {given after : List ℕ} {n : ℕ} (P : List ℕ → Type 0)
-    → ((text : List ℕ) → outcome (length before) form c given ≡ line text → P text) → Wrote before form c given after (Line n) → P (take n after)
+    → ((text : List ℕ) → outcome (length before) form c given ≡ line text → P text) → Wrote before form c given after (Ok n) → P (take n after)
 from_buffer {before} {form} {c} {given} {after} {n} P holds w = go (outcome (length before) form c given) refl
   where
     go : (o : Outcome) → outcome (length before) form c given ≡ o → P (take n after)
     go (refused number) e =
-        let f : Line n ≡ Refused number = rw e at w.answer in
+        let f : Ok n ≡ Err number = rw e at w.answer in
         let z : ◌≡◌ {A = ℕ} 0 1 = cc in
         absurd (omega arith)
     go (line text) e =
-        let f : Line n ≡ Line (length text) = rw e at w.answer in
+        let f : Ok n ≡ Ok (length text) = rw e at w.answer in
         let k : n ≡ length text = cc in
         let m : n ≡ 0 + length text = omega arith in
         let l : after ≡ over before 0 text = rw e at w.laid in
         rw (l, m, over_front before 0 text (omega arith)) (holds text e)
 
 -- the line reader and the command reader find the command and the pairs
-pub round_trip : {before : List ℕ} {form : Form} {c : Command} {given after : List ℕ} {n : ℕ} → Wrote before form c given after (Line n)
+pub round_trip : {before : List ℕ} {form : Form} {c : Command} {given after : List ℕ} {n : ℕ} → Wrote before form c given after (Ok n)
     → ReadsBack c (pairs_of given) (take n after)
 round_trip {before} {form} {c} {given} w = from_buffer (ReadsBack c (pairs_of given)) (line_back (length before) form c given) w
 
@@ -177,7 +177,7 @@ line_meant room form c given text e =
     (means_accepted f.freq (code_text form ps) ps (code_means form t.accepts.code))
     (subst (λ (x : List ℕ). length x ≤ 4096) is (few room form c given text e)))
 
-pub round_trip_meant : {before : List ℕ} {form : Form} {c : Command} {given after : List ℕ} {n : ℕ} → Wrote before form c given after (Line n)
+pub round_trip_meant : {before : List ℕ} {form : Form} {c : Command} {given after : List ℕ} {n : ℕ} → Wrote before form c given after (Ok n)
     → IsSendir (take n after) c.place.port (command c.fields.id c.fields.freq c.fields.repeat c.fields.offset) (pairs_of given)
 round_trip_meant {before} {form} {c} {given} w =
     from_buffer

@@ -8,6 +8,7 @@ use native.Mathlib.Omega.{arith}
 use borrow.Author.Tests.{le-ltb, leb-true}
 use lib.Dec.{ltb, leb, eqb}
 use lib.ListN.{length}
+use Rattle.std.proofs.Common.{Ok, Err}
 use Rattle.laws.specs.Checks.{between}
 use Rattle.laws.specs.Lists.{all, part, behind, joined}
 use Rattle.laws.proofs.Choice.{by_test}
@@ -29,7 +30,6 @@ use Rattle.request.specs.declared.name.Name.TheVariants.{SendIr}
 use Rattle.request.specs.Name.{name_of}
 use Rattle.command.specs.declared.given.Given.{Given}
 use Rattle.command.specs.declared.given.Command.{Command}
-use Rattle.command.specs.declared.fields.FieldsRead.TheVariants.{Fault, Good}
 use Rattle.command.specs.Fields.{fields_at}
 use Rattle.command.specs.Given.{taken_as}
 use Rattle.command.specs.Read.{faulty, code_read, code_at, command_at}
@@ -132,7 +132,7 @@ module _ {s : List ℕ} {at : ℕ} {f : Given} {counts : List ℕ} (c : Cursor s
   behind_fields = next (next (next (next c)))
 
   -- the fields, or the fault of the first that is out of range
-  fields_read : fields_at s at ≡ cond (eqb (fields_fault f) 0) (Good (taken_as f) code_begins) (Fault (fields_fault f))
+  fields_read : fields_at s at ≡ cond (eqb (fields_fault f) 0) (Ok (taken_as f, code_begins)) (Err (fields_fault f))
   unfolding fields_at fields_fault
   fields_read =
       rw (within_is c 0 most_id, field_within_law x.id 0 most_id (omega arith), field_value x.id)

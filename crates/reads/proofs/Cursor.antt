@@ -18,15 +18,13 @@ use Rattle.words.specs.Digits.{is_digit, worth}
 use Rattle.meaning.specs.Line.{is, is_number, within, is_address}
 use Rattle.text.specs.declared.number.Number.{Number}
 use Rattle.text.specs.declared.number.Number.TheVariants.{Missing, TooLong, Value}
-use Rattle.text.specs.declared.field.Field.TheVariants.{Bad, Good}
+use Rattle.std.proofs.Common.{Option, Some, None}
 use Rattle.text.specs.Number.{run, number_of, number_at}
 use Rattle.text.specs.Field as field
 use Rattle.text.specs.Field.{ends_field, after_comma, field_is, field_within}
-use Rattle.request.specs.declared.address.Address.{Address}
-use Rattle.request.specs.declared.address.Address.TheVariants as address
 use Rattle.request.specs.declared.mode.Mode.{Mode}
 use Rattle.request.specs.declared.mode.Mode.TheVariants.{Ir, Sensor, IrBlaster, LedLighting}
-use Rattle.request.specs.declared.mode.ModeRead.TheVariants as mode
+use Rattle.request.specs.declared.Place.{Place}
 use Rattle.request.specs.Place.{place_of}
 use Rattle.request.specs.Address.{beyond, part_of, part_at, port_read, port_at, module_read, address_at}
 use Rattle.request.specs.Mode.{mode_at, mode_word, is_sensor, is_lighting, is_silent}
@@ -182,18 +180,18 @@ module _ (s : List ℕ) (at : ℕ) where
       (by_test (eqb (length (run (drop at s))) 0) (λ f. rw f missing) λ f. rw f
       (by_test (ltb 6 (length (run (drop at s)))) (λ g. rw g (long _ (whole_at ∙ e))) (λ g. rw g (other _ _ (whole_at ∙ e))))))
 
-  within_at : (least most : ℕ) → field_within least most s at ≡ cond (within least most field_at) (Good (worth 0 field_at) (at + length field_at)) Bad
+  within_at : (least most : ℕ) → field_within least most s at ≡ cond (within least most field_at) (Some (worth 0 field_at, at + length field_at)) None
   unfolding field_within within
   within_at least most =
-      number_at_law (field.within least most s) Bad refl (λ end e. refl) (λ v end e. rw e)
+      number_at_law (field.within least most s) None refl (λ end e. refl) (λ v end e. rw e)
       ∙ by_test (is_number field_at)
       (λ e. rw e (by_test (leb (length field_at) 6) (λ f. rw (f, ends_at, between_checks)) (λ f. rw f)))
       (λ e. rw e)
 
-  port_at_law : (m : ℕ) → port_at s m at ≡ cond (is_number field_at) (address.At (place_of m (counts field_at)) (at + length field_at)) address.Bad
+  port_at_law : (m : ℕ) → port_at s m at ≡ cond (is_number field_at) (Some (place_of m (counts field_at), at + length field_at)) None
   unfolding port_at part_at
   port_at_law m =
-      number_at_law (λ n. port_read s m (part_of n)) address.Bad refl (λ end e. rw e) (λ v end e. rw e)
+      number_at_law (λ n. port_read s m (part_of n)) None refl (λ end e. rw e) (λ v end e. rw e)
       ∙ rw ends_at (by_test (leb (length field_at) 6) (λ f. rw f) (λ f. rw f))
 
 -- ---- an address
@@ -267,8 +265,8 @@ module _ (s : List ℕ) (at : ℕ) where
   abbrev d : List ℕ
   d = run (drop at s)
 
-  abbrev address_of : List ℕ → Address
-  address_of f = cond (is_address f) (address.At (place_of (counts (part 58 0 f)) (counts (part 58 1 f))) (at + length f)) address.Bad
+  abbrev address_of : List ℕ → Option (Place × ℕ)
+  address_of f = cond (is_address f) (Some (place_of (counts (part 58 0 f)) (counts (part 58 1 f)), at + length f)) None
 
   some_digits : (x : List ℕ) → drop (length d) (drop at s) ≡ x → 1 ≤ length d
       → module_read s (part_of (Value (counts d) (at + length d))) ≡ address_of (field_at s at)
@@ -297,7 +295,7 @@ module _ (s : List ℕ) (at : ℕ) where
       rw (below, byte, g, port_at_law s (at + length d + 1) (counts d), there, g_is, colon_address d (up_to 44 y) digits some)
       (by_test (is_number (up_to 44 y))
       (λ n. rw (n, colon_module d (up_to 44 y) digits some, colon_port d (up_to 44 y) digits some n)
-      (ap (address.At (place_of (counts d) (counts (up_to 44 y)))) (omega (arith, length-append d (58 ∷ up_to 44 y)))))
+      (ap (λ (n : ℕ). Some (place_of (counts d) (counts (up_to 44 y)), n)) (omega (arith, length-append d (58 ∷ up_to 44 y)))))
       (λ n. rw n)))
       (λ g. rw (below, byte, g, front, f, broken_no d b (up_to 44 y) digits (leading_end is_digit (drop at s) e) g)))
 
@@ -313,7 +311,7 @@ module _ (s : List ℕ) (at : ℕ) where
       (λ f. rw (lt-ltb 6 (length d) (leb-false (length d) 6 f)) (rw f at some))))
 
   -- ---- a mode
-  mode_at_law : mode_at s at ≡ cond (is_mode (field_at s at)) (mode.Known (mode_in (field_at s at)) (at + length (field_at s at))) mode.Unknown
+  mode_at_law : mode_at s at ≡ cond (is_mode (field_at s at)) (Some (mode_in (field_at s at), at + length (field_at s at))) None
   unfolding mode_at is_mode mode_in
   mode_at_law =
       let f = field_at s at in
@@ -357,13 +355,13 @@ module _ {s : List ℕ} {k at : ℕ} (c : Cursor s k at) where
       (λ e. rw e (le-ltb 0 (count 44 s - k) (omega (arith, ltb-false (suc k) (suc (count 44 s)) e)))))
 
   pub within_is : (least most : ℕ)
-      → field_within least most s at ≡ cond (within least most (part 44 k s)) (Good (worth 0 (part 44 k s)) (at + length (part 44 k s))) Bad
+      → field_within least most s at ≡ cond (within least most (part 44 k s)) (Some (worth 0 (part 44 k s), at + length (part 44 k s))) None
   within_is least most = within_at s at least most ∙ rw field_is_law
 
   pub address_is_at : address_at s at
       ≡ cond (is_address (part 44 k s))
-      (address.At (place_of (counts (part 58 0 (part 44 k s))) (counts (part 58 1 (part 44 k s)))) (at + length (part 44 k s))) address.Bad
+      (Some (place_of (counts (part 58 0 (part 44 k s))) (counts (part 58 1 (part 44 k s))), at + length (part 44 k s))) None
   address_is_at = address_at_law s at ∙ rw field_is_law
 
-  pub mode_is : mode_at s at ≡ cond (is_mode (part 44 k s)) (mode.Known (mode_in (part 44 k s)) (at + length (part 44 k s))) mode.Unknown
+  pub mode_is : mode_at s at ≡ cond (is_mode (part 44 k s)) (Some (mode_in (part 44 k s), at + length (part 44 k s))) None
   mode_is = mode_at_law s at ∙ rw field_is_law

@@ -4,6 +4,7 @@ use mathlib.Core.Path.{◌≡◌, refl, sym, ap, ◌∙◌}
 use mathlib.Core.Bool.{true, false, cond, not, ◌&&◌, ◌||◌}
 use mathlib.Core.List.{List, [], ◌∷◌}
 use mathlib.Core.Option.{get_or}
+use Rattle.std.specs.Prelude.{Option, Some, None}
 use native.Mathlib.Nat.{zero-add}
 use native.Mathlib.Omega.{arith}
 use borrow.Author.Tests.{eqb-true, eqb-false, eq-eqb}
@@ -29,8 +30,6 @@ use Rattle.request.specs.declared.name.Name.{Name}
 use Rattle.request.specs.declared.name.Name.TheVariants as name
 use Rattle.request.specs.declared.name.Word.{Word}
 use Rattle.request.specs.declared.name.Word.TheVariants.{Alone, Named}
-use Rattle.request.specs.declared.name.WordRead.{WordRead}
-use Rattle.request.specs.declared.name.WordRead.TheVariants.{Unknown, Known}
 use Rattle.request.specs.declared.mode.Mode.{Mode}
 use Rattle.request.specs.declared.mode.Mode.TheVariants.{Ir, Sensor, IrBlaster, LedLighting}
 use Rattle.request.specs.declared.Place.{Place}
@@ -276,17 +275,17 @@ module _ (log : List Deed) (connection : ℕ) (s : List ℕ) where
   fixed_row fixed e = record { is = first_row (request.Fixed fixed) (fixed_word fixed) e }
 
   -- one word more
-  record AgreesWord (r : Row) (w : WordRead) : Type 0 where
+  record AgreesWord (r : Row) (w : Option Word) : Type 0 where
     is : Agrees r (asked s w)
 
-  by_word : (w : Word) {r q : Row} {other : WordRead} → count 44 (word_of w) ≡ 0 → (word_of w ≡ field 0 → Agrees r (worded s w))
-      → AgreesWord q other → AgreesWord (cond (same (word_of w) (field 0)) r q) (cond (field_is (word_of w) s) (Known w) other)
+  by_word : (w : Word) {r q : Row} {other : Option Word} → count 44 (word_of w) ≡ 0 → (word_of w ≡ field 0 → Agrees r (worded s w))
+      → AgreesWord q other → AgreesWord (cond (same (word_of w) (field 0)) r q) (cond (field_is (word_of w) s) (Some w) other)
   by_word w n f g =
       rw (name_is (word_of w) n)
       (by_test (same (word_of w) (field 0)) (λ t. rw t (record { is = f (same_is (word_of w) (field 0) t) })) (λ t. rw t g))
 
   -- 001 "the name up to the first comma is unknown"
-  unknown : AgreesWord (table.row [] (no 1)) Unknown
+  unknown : AgreesWord (table.row [] (no 1)) None
   unknown = record { is = record { is = refl } }
 
   request_row : ltb 4096 (length s) ≡ false → all (between 32 126) s ≡ true → Agrees (table.request log connection s) (read_request s)

@@ -2,6 +2,7 @@
 use Prim.Native.Nat.{ℕ}
 use mathlib.Core.Path.{◌≡◌, refl}
 use mathlib.Core.Bool.{true}
+use Rattle.std.specs.Prelude.{Err}
 use lib.Dec.{eqb}
 use Rattle.laws.proofs.Choice.{by_test}
 use Rattle.request.specs.declared.name.Name.{Name}
@@ -10,7 +11,7 @@ use Rattle.request.specs.Place.{place_of}
 use Rattle.request.specs.Address.{beyond, has_module, address_fault}
 
 -- a module
-pub long_module_002 : (n : Name) (port : ℕ) → address_fault n (place_of beyond port) ≡ 2
+pub long_module_002 : (n : Name) (port : ℕ) → address_fault n (place_of beyond port) ≡ Err 2
 unfolding address_fault
 long_module_002 SetIr port = refl
 long_module_002 GetIr port = refl
@@ -22,6 +23,6 @@ long_module_002 SetLamp port = refl
 long_module_002 GetLamp port = refl
 
 -- a port
-pub long_port_003 : (n : Name) (m : ℕ) → has_module n m ≡ true → address_fault n (place_of m beyond) ≡ 3
+pub long_port_003 : (n : Name) (m : ℕ) → has_module n m ≡ true → address_fault n (place_of m beyond) ≡ Err 3
 unfolding address_fault
 long_port_003 n m h = rw h (by_test (eqb m 1) (λ e. rw e) (λ e. rw e))

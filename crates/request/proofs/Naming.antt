@@ -6,6 +6,7 @@ use mathlib.Core.Logic.{◌⊎◌, inl, inr, ⊎_elim}
 use mathlib.Core.Bool.{true, false}
 use native.Mathlib.Omega.{arith}
 use borrow.Author.Tests.{eqb-true}
+use Rattle.std.specs.Prelude.{Some, None}
 use lib.Dec.{eqb}
 use lib.ListN.{length, get_or}
 use Rattle.laws.proofs.Choice.{by_test, not_both}
@@ -14,7 +15,6 @@ use Rattle.request.specs.declared.Fixed.TheVariants.{Devices, Version}
 use Rattle.request.specs.declared.name.Name.TheVariants.{SetIr, GetIr, SetState, GetState, SendIr, StopIr, SetLamp, GetLamp}
 use Rattle.request.specs.declared.name.Word.{Word}
 use Rattle.request.specs.declared.name.Word.TheVariants.{Alone, Named}
-use Rattle.request.specs.declared.name.WordRead.TheVariants.{Unknown, Known}
 use Rattle.request.specs.Name.{word_of, words, word_among, word_at, candidate}
 
 -- a text that begins with a word has the word's bytes
@@ -66,14 +66,14 @@ module _ (s : List ℕ) where
       rw (begins (word_of w) s 0 e (omega arith), begins (word_of w) s 3 e (omega arith), begins (word_of w) s 4 e (omega arith)) (told w).is
 
   -- so it is found among the words where it is the first field, and nothing is where it is not
-  found : (ws : List Word) → field_is (word_of likely) s ≡ true → Among likely ws → word_among ws s ≡ Known likely
+  found : (ws : List Word) → field_is (word_of likely) s ≡ true → Among likely ws → word_among ws s ≡ Some likely
   found [] e a = absurd a
   found (w ∷ ws) e a =
       by_test (field_is (word_of w) s)
-      (λ t. rw t (ap Known (sym (only w t))))
+      (λ t. rw t (ap Some (sym (only w t))))
       (λ t. rw t (found ws e (⊎_elim (λ (q : likely ≡ w). not_both (ap (λ (v : Word). field_is (word_of v) s) (sym q) ∙ e) t) (λ b. b) a)))
 
-  missing : (ws : List Word) → field_is (word_of likely) s ≡ false → word_among ws s ≡ Unknown
+  missing : (ws : List Word) → field_is (word_of likely) s ≡ false → word_among ws s ≡ None
   missing [] e = refl
   missing (w ∷ ws) e =
       by_test (field_is (word_of w) s)
@@ -82,10 +82,10 @@ module _ (s : List ℕ) where
 
   -- the line's word is the candidate, where the first field is that, and unknown where not
   module _ (w : Word) (e : w ≡ likely) where
-    pub word_known : field_is (word_of w) s ≡ true → word_at s ≡ Known w
+    pub word_known : field_is (word_of w) s ≡ true → word_at s ≡ Some w
     unfolding word_at
-    word_known h = found words (rw e at h) (told likely).among ∙ ap Known (sym e)
+    word_known h = found words (rw e at h) (told likely).among ∙ ap Some (sym e)
 
-    pub word_unknown : field_is (word_of w) s ≡ false → word_at s ≡ Unknown
+    pub word_unknown : field_is (word_of w) s ≡ false → word_at s ≡ None
     unfolding word_at
     word_unknown h = missing words (rw e at h)

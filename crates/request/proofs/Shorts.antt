@@ -5,6 +5,7 @@ use mathlib.Core.List.{List, [], ◌∷◌}
 use mathlib.Core.Bool.{Bool, true, false, cond, not}
 use native.Mathlib.Omega.{arith}
 use borrow.Author.Tests.{ltb-false, leb-true, leb-false, lt-leb, eqb-true}
+use Rattle.std.specs.Prelude.{Some}
 use lib.Dec.{ltb, leb, eqb}
 use lib.ListN.{length, drop, get_or}
 use Rattle.laws.proofs.Choice.{by_test, guard, not_both}
@@ -13,7 +14,6 @@ use Rattle.words.specs.Digits.{is_digit, worth}
 use Rattle.text.specs.declared.number.Number.TheVariants.{Value}
 use Rattle.text.specs.Number.{run, number_of, number_at}
 use Rattle.text.specs.Field.{ends_field}
-use Rattle.request.specs.declared.address.Address.TheVariants.{At}
 use Rattle.request.specs.Place.{place_of}
 use Rattle.request.specs.Address.{part_at, port_at, address_at, is_short}
 
@@ -59,7 +59,7 @@ short_is s at e =
 
 -- its module and port are its digits
 pub short_read : (s : List ℕ) (at : ℕ) → Short s at
-    → address_at s at ≡ At (place_of (get_or s at 0 - 48) (get_or s (at + 2) 0 - 48)) (at + 3)
+    → address_at s at ≡ Some (place_of (get_or s at 0 - 48) (get_or s (at + 2) 0 - 48), at + 3)
 unfolding address_at part_at port_at
 short_read s at h =
     let room = h.room in

@@ -1,13 +1,11 @@
 -- Document 01: "modes IR, SENSOR, IR_BLASTER", and by request 3 LED_LIGHTING "on any connector", 023 "mode or relay state not in its list, or missing", 014 "IR_BLASTER on a
 -- connector other than 3".
-use Rattle.std.specs.Prelude.{ℕ, ◌+◌, List, [], ◌∷◌, Bool, true, false, length, drop, eqb}
+use Rattle.std.specs.Prelude.{ℕ, ◌+◌, List, [], ◌∷◌, Bool, true, false, Option, Some, None, length, drop, eqb}
 use Rattle.laws.specs.Bytes.{bytes}
 use Rattle.laws.specs.Checks.{◌⇒◌, first}
 use Rattle.text.specs.Field.{field_is}
 use Rattle.request.specs.declared.mode.Mode.{Mode}
 use Rattle.request.specs.declared.mode.Mode.TheVariants.{Ir, Sensor, IrBlaster, LedLighting}
-use Rattle.request.specs.declared.mode.ModeRead.{ModeRead}
-use Rattle.request.specs.declared.mode.ModeRead.TheVariants.{Unknown, Known}
 
 abbrev pub mode_word : Mode → List ℕ
 mode_word Ir = bytes "IR"
@@ -16,13 +14,13 @@ mode_word IrBlaster = bytes "IR_BLASTER"
 mode_word LedLighting = bytes "LED_LIGHTING"
 
 -- the mode that the field at a place is, and where that field ends
-unfoldable pub mode_at : List ℕ → ℕ → ModeRead
+unfoldable pub mode_at : List ℕ → ℕ → Option (Mode × ℕ)
 mode_at s at = first
-    ((field_is (mode_word Ir) (drop at s) ⇒ Known Ir (at + length (mode_word Ir)))
-    ∷ (field_is (mode_word Sensor) (drop at s) ⇒ Known Sensor (at + length (mode_word Sensor)))
-    ∷ (field_is (mode_word IrBlaster) (drop at s) ⇒ Known IrBlaster (at + length (mode_word IrBlaster)))
-    ∷ (field_is (mode_word LedLighting) (drop at s) ⇒ Known LedLighting (at + length (mode_word LedLighting)))
-    ∷ []) Unknown
+    ((field_is (mode_word Ir) (drop at s) ⇒ Some (Ir, at + length (mode_word Ir)))
+    ∷ (field_is (mode_word Sensor) (drop at s) ⇒ Some (Sensor, at + length (mode_word Sensor)))
+    ∷ (field_is (mode_word IrBlaster) (drop at s) ⇒ Some (IrBlaster, at + length (mode_word IrBlaster)))
+    ∷ (field_is (mode_word LedLighting) (drop at s) ⇒ Some (LedLighting, at + length (mode_word LedLighting)))
+    ∷ []) None
 
 abbrev pub may_have : ℕ → Mode → Bool
 may_have port Ir = true

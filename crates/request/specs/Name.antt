@@ -1,5 +1,5 @@
 -- Document 01: "Names are case sensitive." A request's name runs up to the first comma.
-use Rattle.std.specs.Prelude.{ℕ, List, [], ◌∷◌, cond, eqb}
+use Rattle.std.specs.Prelude.{ℕ, List, [], ◌∷◌, cond, Option, Some, None, eqb}
 use Rattle.laws.specs.Bytes.{bytes}
 use Rattle.laws.specs.Checks.{◌⇒◌, first}
 use Rattle.text.specs.Field.{field_is}
@@ -9,8 +9,6 @@ use Rattle.request.specs.declared.name.Name.{Name}
 use Rattle.request.specs.declared.name.Name.TheVariants.{SetIr, GetIr, SetState, GetState, SendIr, StopIr, SetLamp, GetLamp}
 use Rattle.request.specs.declared.name.Word.{Word}
 use Rattle.request.specs.declared.name.Word.TheVariants.{Alone, Named}
-use Rattle.request.specs.declared.name.WordRead.{WordRead}
-use Rattle.request.specs.declared.name.WordRead.TheVariants.{Unknown, Known}
 
 -- the requests without an address
 abbrev pub fixed_word : Fixed → List ℕ
@@ -39,11 +37,11 @@ words =
     ∷ Named SetLamp ∷ Named GetLamp ∷ []
 
 -- the first of some words that the line's first field is
-abbrev pub word_among : List Word → List ℕ → WordRead
-word_among [] s = Unknown
-word_among (w ∷ ws) s = cond (field_is (word_of w) s) (Known w) (word_among ws s)
+abbrev pub word_among : List Word → List ℕ → Option Word
+word_among [] s = None
+word_among (w ∷ ws) s = cond (field_is (word_of w) s) (Some w) (word_among ws s)
 
-unfoldable pub word_at : List ℕ → WordRead
+unfoldable pub word_at : List ℕ → Option Word
 word_at s = word_among words s
 
 -- the one word that can be the first field of a line with these first, fourth and fifth bytes: 100, 115, 95, 118 and 76 are d, s, _, v and L

@@ -1,12 +1,10 @@
 -- A line of bytes read into one request, or into its first fault that does not depend on the hub's state, in document 01's
 -- order: "015, 001, 017 for the address, 002, 003, then by request: .. set_IR 023, 014, 017;
 -- setstate 023, 017; stopir 017; getstate 017; get_IR 017. getdevices and getversion know only 017."
-use Rattle.std.specs.Prelude.{ℕ, List, [], ◌∷◌, Bool, false, cond, not, length, ltb, leb, eqb}
+use Rattle.std.specs.Prelude.{ℕ, List, [], ◌∷◌, Bool, false, cond, not, Option, Some, None, Result, Ok, Err, length, ltb, leb, eqb}
 use Rattle.laws.specs.Checks.{◌⇒◌, first}
 use Rattle.laws.specs.Lists.{all}
 use Rattle.text.specs.Field.{after_comma, field_within}
-use Rattle.text.specs.declared.field.Field.{Field}
-use Rattle.text.specs.declared.field.Field.TheVariants.{Bad, Good}
 use Rattle.request.specs.declared.Place.{Place}
 use Rattle.request.specs.declared.Ask.TheVariants.{SetMode, GetMode, GetContact, Send, Stop, SetLamp, GetLamp}
 use Rattle.request.specs.declared.Turn.TheVariants.{Set, Get}
@@ -16,12 +14,7 @@ use Rattle.request.specs.declared.name.Name.{Name}
 use Rattle.request.specs.declared.name.Name.TheVariants as name
 use Rattle.request.specs.declared.name.Word.{Word}
 use Rattle.request.specs.declared.name.Word.TheVariants.{Alone, Named}
-use Rattle.request.specs.declared.name.WordRead.{WordRead}
-use Rattle.request.specs.declared.name.WordRead.TheVariants.{Unknown, Known}
-use Rattle.request.specs.declared.address.Address.{Address}
-use Rattle.request.specs.declared.address.Address.TheVariants as address
-use Rattle.request.specs.declared.mode.ModeRead.{ModeRead}
-use Rattle.request.specs.declared.mode.ModeRead.TheVariants as mode
+use Rattle.request.specs.declared.mode.Mode.{Mode}
 use Rattle.request.specs.Place.{nowhere}
 use Rattle.request.specs.Name.{fixed_word, name_of, word_at}
 use Rattle.request.specs.Address.{address_at, address_fault}
@@ -40,18 +33,18 @@ unfoldable pub alone : List ℕ → ℕ → Request → Request
 alone s end request = cond (ltb end (length s)) (fault 17) request
 
 -- set_IR: 023, 014, 017
-abbrev pub mode_read : List ℕ → Place → ModeRead → Request
-mode_read s place mode.Unknown = Fault 23 place
-mode_read s place (mode.Known m end) =
+abbrev pub mode_read : List ℕ → Place → Option (Mode × ℕ) → Request
+mode_read s place None = Fault 23 place
+mode_read s place (Some (m, end)) =
     cond (may_have place.port m) (alone s end (Connector place (SetMode m))) (Fault 14 place)
 
 unfoldable pub set_ir_at : List ℕ → Place → ℕ → Request
 set_ir_at s place at = mode_read s place (mode_at s at)
 
 -- setstate: 023, 017
-abbrev pub state_read : List ℕ → Place → Field → Request
-state_read s place Bad = Fault 23 place
-state_read s place (Good state end) = alone s end (Relay place (Set state))
+abbrev pub state_read : List ℕ → Place → Option (ℕ × ℕ) → Request
+state_read s place None = Fault 23 place
+state_read s place (Some (state, end)) = alone s end (Relay place (Set state))
 
 unfoldable pub set_state_at : List ℕ → Place → ℕ → Request
 set_state_at s place at = state_read s place (field_within 0 1 s at)
@@ -62,16 +55,16 @@ get_state_at s place end =
     cond (eqb place.m 1) (alone s end (Connector place GetContact)) (alone s end (Relay place Get))
 
 -- set_LED_LIGHTING: 023 for its fields. Whether the connector is a lamp comes before 017, so that the request carries whether there is more.
-abbrev pub ramp_read : List ℕ → Place → ℕ → Field → Request
-ramp_read s place target Bad = Fault 23 place
-ramp_read s place target (Good ramp end) = Connector place (SetLamp target ramp (ltb end (length s)))
+abbrev pub ramp_read : List ℕ → Place → ℕ → Option (ℕ × ℕ) → Request
+ramp_read s place target None = Fault 23 place
+ramp_read s place target (Some (ramp, end)) = Connector place (SetLamp target ramp (ltb end (length s)))
 
 unfoldable pub ramp_at : List ℕ → Place → ℕ → ℕ → Request
 ramp_at s place target at = ramp_read s place target (field_within 0 10 s at)
 
-abbrev pub target_read : List ℕ → Place → Field → Request
-target_read s place Bad = Fault 23 place
-target_read s place (Good target end) = ramp_at s place target (after_comma s end)
+abbrev pub target_read : List ℕ → Place → Option (ℕ × ℕ) → Request
+target_read s place None = Fault 23 place
+target_read s place (Some (target, end)) = ramp_at s place target (after_comma s end)
 
 unfoldable pub set_lamp_at : List ℕ → Place → ℕ → Request
 set_lamp_at s place at = target_read s place (field_within 1 100 s at)
@@ -88,10 +81,13 @@ at_address s name.SetLamp place end = set_lamp_at s place (after_comma s end)
 at_address s name.GetLamp place end = Connector place (GetLamp (ltb end (length s)))
 
 -- 017 for the address, 002, 003
-abbrev pub address_read : List ℕ → Name → Address → Request
-address_read s n address.Bad = fault 17
-address_read s n (address.At place end) =
-    cond (eqb (address_fault n place) 0) (at_address s n place end) (fault (address_fault n place))
+abbrev pub fault_read : List ℕ → Name → Place → ℕ → Result Unit ℕ → Request
+fault_read s n place end (Ok u) = at_address s n place end
+fault_read s n place end (Err number) = fault number
+
+abbrev pub address_read : List ℕ → Name → Option (Place × ℕ) → Request
+address_read s n None = fault 17
+address_read s n (Some (place, end)) = fault_read s n place end (address_fault n place)
 
 unfoldable pub addressed : List ℕ → Name → Request
 addressed s n = address_read s n (address_at s (after_comma s (length (name_of n))))
@@ -101,9 +97,9 @@ abbrev pub worded : List ℕ → Word → Request
 worded s (Alone fixed) = alone s (length (fixed_word fixed)) (Fixed fixed)
 worded s (Named n) = addressed s n
 
-abbrev pub asked : List ℕ → WordRead → Request
-asked s Unknown = fault 1
-asked s (Known word) = worded s word
+abbrev pub asked : List ℕ → Option Word → Request
+asked s None = fault 1
+asked s (Some word) = worded s word
 
 -- the request that a line is, for any bytes
 unfoldable pub read_request : List ℕ → Request

@@ -8,99 +8,68 @@ use crate::name::Name;
 use text::field::ends_field;
 use text::number::{Number, is_digit};
 
-// A place and where the field ends, or none.
-#[derive(Clone, Copy)]
-pub enum Address {
-    Bad,
-    At(Place, usize),
-}
-
-// One part of an address, the module or the port: the number that its digits count as and the place behind them, or no digit.
-#[derive(Clone, Copy)]
-enum Part {
-    Missing,
-    Digits(u64, usize),
-}
-
 // What a part of over six digits counts as, for it is digits all the same: above every module and port.
 const BEYOND: u64 = 1000000;
 
-fn part_at(s: &[u8], at: usize) -> Part
+// One part of an address, the module or the port: the number that its digits count as and the place behind them; none where no digit is.
+#[tactic(auto, unfolding(crate::specs::Address::part_at))]
+fn part_at(s: &[u8], at: usize) -> Option<(u64, usize)>
     ensures { result ≡ part_at s.now at }
 {
     match text::number::number_at(s, at) {
-        Number::Missing => Part::Missing,
-        Number::TooLong(end) => Part::Digits(BEYOND, end),
-        Number::Value(n, end) => Part::Digits(n, end),
+        Number::Missing => None,
+        Number::TooLong(end) => Some((BEYOND, end)),
+        Number::Value(n, end) => Some((n, end)),
     }
 }
 
 // The port behind a module and its colon.
-fn port_at(s: &[u8], m: u64, at: usize) -> Address
+#[tactic(auto, unfolding(crate::specs::Address::port_at))]
+fn port_at(s: &[u8], m: u64, at: usize) -> Option<(Place, usize)>
     ensures { result ≡ port_at s.now m at }
 {
-    match part_at(s, at) {
-        Part::Missing => Address::Bad,
-        Part::Digits(port, end) => {
-            if ends_field(s, end) {
-                Address::At(Place { m, port }, end)
-            } else {
-                Address::Bad
-            }
-        }
+    let (port, end) = part_at(s, at)?;
+    if !ends_field(s, end) {
+        return None;
     }
+    Some((Place { m, port }, end))
 }
 
 // An address of any length.
-fn long_at(s: &[u8], at: usize) -> Address
+#[tactic(auto, unfolding(crate::specs::Address::address_at))]
+fn long_at(s: &[u8], at: usize) -> Option<(Place, usize)>
     ensures { result ≡ address_at s.now at }
 {
-    match part_at(s, at) {
-        Part::Missing => Address::Bad,
-        Part::Digits(m, end) => {
-            if s.len() <= end {
-                return Address::Bad;
-            }
-            if s[end] != b':' {
-                return Address::Bad;
-            }
-            port_at(s, m, end + 1)
-        }
+    let (m, end) = part_at(s, at)?;
+    if s.len() <= end || s[end] != b':' {
+        return None;
     }
+    port_at(s, m, end + 1)
 }
 
 // Whether the field at a place is a digit, a colon and a digit.
+#[tactic(auto, unfolding(crate::specs::Address::is_short))]
 fn is_short(s: &[u8], at: usize) -> bool
     ensures { result ≡ is_short s.now at }
 {
-    if s.len() <= at {
-        return false;
-    }
-    if s.len() - at < 3 {
-        return false;
-    }
-    if !is_digit(s[at]) {
-        return false;
-    }
-    if s[at + 1] != b':' {
-        return false;
-    }
-    if !is_digit(s[at + 2]) {
-        return false;
-    }
-    ends_field(s, at + 3)
+    at < s.len()
+        && s.len() - at >= 3
+        && is_digit(s[at])
+        && s[at + 1] == b':'
+        && is_digit(s[at + 2])
+        && ends_field(s, at + 3)
 }
 
-// The address at a place. Nearly every one is short.
-pub fn address_at(s: &[u8], at: usize) -> Address
+// The address at a place, a place of the hub, and where its field ends. Nearly every one is short.
+pub fn address_at(s: &[u8], at: usize) -> Option<(Place, usize)>
     ensures { result ≡ address_at s.now at }
 {
     if !is_short(s, at) {
         return long_at(s, at);
     }
-    let m = (s[at] - b'0') as u64;
-    let port = (s[at + 2] - b'0') as u64;
-    Address::At(Place { m, port }, at + 3)
+    let m = u64::from(s[at] - b'0');
+    let port = u64::from(s[at + 2] - b'0');
+    Some((Place { m, port }, at + 3))
 }
 
 // Whether a request of this name goes to this module.
@@ -108,14 +77,9 @@ fn has_module(name: Name, m: u64) -> bool
     ensures { result ≡ has_module name m }
 {
     match name {
-        Name::SetIr => m == Place::INFRARED,
-        Name::GetIr => m == Place::INFRARED,
         Name::SetState => m == Place::RELAY,
         Name::GetState => m == Place::INFRARED || m == Place::RELAY,
-        Name::SendIr => m == Place::INFRARED,
-        Name::StopIr => m == Place::INFRARED,
-        Name::SetLamp => m == Place::INFRARED,
-        Name::GetLamp => m == Place::INFRARED,
+        _ => m == Place::INFRARED,
     }
 }
 
@@ -130,18 +94,16 @@ fn ports_of(m: u64) -> u64
     }
 }
 
-// 002 or 003 for an address that this request does not take, else 0.
-pub fn address_fault(name: Name, place: Place) -> u64
+// An address that this request takes, or else 002 or 003.
+#[tactic(auto, unfolding(crate::specs::Address::address_fault))]
+pub fn address_fault(name: Name, place: Place) -> Result<(), u64>
     ensures { result ≡ address_fault name place }
 {
     if !has_module(name, place.m) {
-        return 2;
+        return Err(2);
     }
-    if place.port < 1 {
-        return 3;
+    if place.port < 1 || ports_of(place.m) < place.port {
+        return Err(3);
     }
-    if ports_of(place.m) < place.port {
-        return 3;
-    }
-    0
+    Ok(())
 }

@@ -7,7 +7,7 @@ ghost use Rattle.request.specs.Place.{connector_in, nowhere};
 use crate::mode::Mode;
 
 // Where a request goes: a module and a port of it.
-#[derive(Clone, Copy)]
+#[derive(Clone, Copy, PartialEq, Eq)]
 pub struct Place {
     pub m: u64,
     pub port: u64,
@@ -45,7 +45,7 @@ impl Place {
 }
 
 // A request without an address: its reply is always the same.
-#[derive(Clone, Copy)]
+#[derive(Clone, Copy, PartialEq, Eq)]
 pub enum Fixed {
     Devices,
     Version,

@@ -2,7 +2,7 @@
 ghost use Rattle.std.specs.Prelude.{◌≡◌};
 ghost use Rattle.request.specs.Mode.{mode_at, may_have, is_sensor, is_lighting, is_silent, fresh_mode};
 
-#[derive(Clone, Copy)]
+#[derive(Clone, Copy, PartialEq, Eq)]
 pub enum Mode {
     Ir,
     Sensor,
@@ -10,81 +10,54 @@ pub enum Mode {
     LedLighting,
 }
 
-// A mode and the place where its field ends, or none.
-#[derive(Clone, Copy)]
-pub enum ModeRead {
-    Unknown,
-    Known(Mode, usize),
-}
-
-// The mode that the field at a place is.
-pub fn mode_at(s: &[u8], at: usize) -> ModeRead
+// The mode that the field at a place is, and where that field ends.
+pub fn mode_at(s: &[u8], at: usize) -> Option<(Mode, usize)>
     ensures { result ≡ mode_at s.now at }
 {
     if s.len() <= at {
-        return ModeRead::Unknown;
+        return None;
     }
     if text::field::field_is(s, at, b"IR") {
-        return ModeRead::Known(Mode::Ir, at + 2);
+        return Some((Mode::Ir, at + 2));
     }
     if text::field::field_is(s, at, b"SENSOR") {
-        return ModeRead::Known(Mode::Sensor, at + 6);
+        return Some((Mode::Sensor, at + 6));
     }
     if text::field::field_is(s, at, b"IR_BLASTER") {
-        return ModeRead::Known(Mode::IrBlaster, at + 10);
+        return Some((Mode::IrBlaster, at + 10));
     }
     if text::field::field_is(s, at, b"LED_LIGHTING") {
-        return ModeRead::Known(Mode::LedLighting, at + 12);
+        return Some((Mode::LedLighting, at + 12));
     }
-    ModeRead::Unknown
+    None
 }
 
 // Whether a connector may have a mode: IR_BLASTER is connector 3's alone.
 pub fn may_have(port: u64, mode: Mode) -> bool
     ensures { result ≡ may_have port mode }
 {
-    match mode {
-        Mode::Ir => true,
-        Mode::Sensor => true,
-        Mode::IrBlaster => port == 3,
-        Mode::LedLighting => true,
-    }
+    mode != Mode::IrBlaster || port == 3
 }
 
 // Whether a connector in a mode reads its contact.
 pub fn is_sensor(mode: Mode) -> bool
     ensures { result ≡ is_sensor mode }
 {
-    match mode {
-        Mode::Ir => false,
-        Mode::Sensor => true,
-        Mode::IrBlaster => false,
-        Mode::LedLighting => false,
-    }
+    mode == Mode::Sensor
 }
 
 // Whether it dims a lamp.
 pub fn is_lighting(mode: Mode) -> bool
     ensures { result ≡ is_lighting mode }
 {
-    match mode {
-        Mode::Ir => false,
-        Mode::Sensor => false,
-        Mode::IrBlaster => false,
-        Mode::LedLighting => true,
-    }
+    mode == Mode::LedLighting
 }
 
 // Whether it transmits nothing.
 pub fn is_silent(mode: Mode) -> bool
     ensures { result ≡ is_silent mode }
 {
-    match mode {
-        Mode::Ir => false,
-        Mode::Sensor => true,
-        Mode::IrBlaster => false,
-        Mode::LedLighting => true,
-    }
+    matches!(mode, Mode::Sensor | Mode::LedLighting)
 }
 
 // The mode of a fresh hub's connector.

@@ -7,7 +7,7 @@ use crate::Fixed;
 use text::field::{byte_at, field_is};
 
 // The name of a request that has an address.
-#[derive(Clone, Copy)]
+#[derive(Clone, Copy, PartialEq, Eq)]
 pub enum Name {
     SetIr,
     GetIr,
@@ -19,16 +19,10 @@ pub enum Name {
     GetLamp,
 }
 
-#[derive(Clone, Copy)]
+#[derive(Clone, Copy, PartialEq, Eq)]
 pub enum Word {
     Alone(Fixed),
     Named(Name),
-}
-
-#[derive(Clone, Copy)]
-pub enum WordRead {
-    Unknown,
-    Known(Word),
 }
 
 fn is_fixed(s: &[u8], fixed: Fixed) -> bool
@@ -66,6 +60,7 @@ fn is_word(s: &[u8], word: Word) -> bool
 }
 
 // The one word that can be the first field, by the line's first, fourth and fifth byte: no two words have all three alike.
+#[tactic(auto, unfolding(crate::specs::Name::candidate))]
 fn candidate(first: u8, fourth: u8, fifth: u8) -> Word
     ensures { result ≡ candidate first fourth fifth }
 {
@@ -105,15 +100,11 @@ fn candidate(first: u8, fourth: u8, fifth: u8) -> Word
 }
 
 // The word that the line's first field is.
-pub fn word_at(s: &[u8]) -> WordRead
+pub fn word_at(s: &[u8]) -> Option<Word>
     ensures { result ≡ word_at s.now }
 {
     let word = candidate(byte_at(s, 0), byte_at(s, 3), byte_at(s, 4));
-    if is_word(s, word) {
-        WordRead::Known(word)
-    } else {
-        WordRead::Unknown
-    }
+    if is_word(s, word) { Some(word) } else { None }
 }
 
 // Where the word ends in a line that begins with it.
@@ -121,8 +112,7 @@ pub fn fixed_end(fixed: Fixed) -> usize
     ensures { result ≡ length (fixed_word fixed) }
 {
     match fixed {
-        Fixed::Devices => 10,
-        Fixed::Version => 10,
+        Fixed::Devices | Fixed::Version => 10,
     }
 }
 
@@ -131,13 +121,8 @@ pub fn name_end(name: Name) -> usize
     ensures { result ≡ length (name_of name) }
 {
     match name {
-        Name::SetIr => 6,
-        Name::GetIr => 6,
-        Name::SetState => 8,
-        Name::GetState => 8,
-        Name::SendIr => 6,
-        Name::StopIr => 6,
-        Name::SetLamp => 16,
-        Name::GetLamp => 16,
+        Name::SetIr | Name::GetIr | Name::SendIr | Name::StopIr => 6,
+        Name::SetState | Name::GetState => 8,
+        Name::SetLamp | Name::GetLamp => 16,
     }
 }

@@ -3,11 +3,9 @@ ghost use Rattle.std.specs.Prelude.{◌≡◌, ◌+◌, ◌≤◌, length, take,
 ghost use Rattle.laws.specs.Lists.{all};
 ghost use Rattle.request.specs.Request.{is_printable, fault, alone, set_ir_at, set_state_at, get_state_at, ramp_at, set_lamp_at, addressed, at_address, worded, read_request};
 
-use crate::address::Address;
-use crate::mode::ModeRead;
-use crate::name::{Name, Word, WordRead};
+use crate::name::{Name, Word};
 use crate::{Ask, Place, Request, Turn};
-use text::field::{Field, after_comma};
+use text::field::after_comma;
 
 // The longest line that is read.
 pub const MOST_BYTES: usize = 4096;
@@ -70,36 +68,37 @@ fn fault(number: u64) -> Request
 }
 
 // A request that is complete at a place: anything behind it is 017.
+#[tactic(auto, unfolding(crate::specs::Request::alone))]
 fn alone(s: &[u8], end: usize, request: Request) -> Request
     ensures { result ≡ alone s.now end request }
 {
     if end < s.len() { fault(17) } else { request }
 }
 
+#[tactic(auto, unfolding(crate::specs::Request::set_ir_at))]
 fn set_ir_at(s: &[u8], place: Place, at: usize) -> Request
     ensures { result ≡ set_ir_at s.now place at }
 {
-    match crate::mode::mode_at(s, at) {
-        ModeRead::Unknown => Request::Fault { number: 23, place },
-        ModeRead::Known(mode, end) => {
-            if crate::mode::may_have(place.port, mode) {
-                alone(s, end, Request::Connector(place, Ask::SetMode(mode)))
-            } else {
-                Request::Fault { number: 14, place }
-            }
-        }
+    let Some((mode, end)) = crate::mode::mode_at(s, at) else {
+        return Request::Fault { number: 23, place };
+    };
+    if !crate::mode::may_have(place.port, mode) {
+        return Request::Fault { number: 14, place };
     }
+    alone(s, end, Request::Connector(place, Ask::SetMode(mode)))
 }
 
+#[tactic(auto, unfolding(crate::specs::Request::set_state_at))]
 fn set_state_at(s: &[u8], place: Place, at: usize) -> Request
     ensures { result ≡ set_state_at s.now place at }
 {
     match text::field::field_within(s, at, 0, 1) {
-        Field::Bad => Request::Fault { number: 23, place },
-        Field::Good(state, end) => alone(s, end, Request::Relay(place, Turn::Set(state))),
+        None => Request::Fault { number: 23, place },
+        Some((state, end)) => alone(s, end, Request::Relay(place, Turn::Set(state))),
     }
 }
 
+#[tactic(auto, unfolding(crate::specs::Request::get_state_at))]
 fn get_state_at(s: &[u8], place: Place, end: usize) -> Request
     ensures { result ≡ get_state_at s.now place end }
 {
@@ -111,12 +110,13 @@ fn get_state_at(s: &[u8], place: Place, end: usize) -> Request
 }
 
 // The ramp behind a lamp's target.
+#[tactic(auto, unfolding(crate::specs::Request::ramp_at))]
 fn ramp_at(s: &[u8], place: Place, target: u8, at: usize) -> Request
     ensures { result ≡ ramp_at s.now place target at }
 {
     match text::field::field_within(s, at, 0, Ask::MOST_RAMP) {
-        Field::Bad => Request::Fault { number: 23, place },
-        Field::Good(ramp, end) => {
+        None => Request::Fault { number: 23, place },
+        Some((ramp, end)) => {
             let ramp = ramp as u8;
             let more = end < s.len();
             Request::Connector(place, Ask::SetLamp { target, ramp, more })
@@ -124,12 +124,13 @@ fn ramp_at(s: &[u8], place: Place, target: u8, at: usize) -> Request
     }
 }
 
+#[tactic(auto, unfolding(crate::specs::Request::set_lamp_at))]
 fn set_lamp_at(s: &[u8], place: Place, at: usize) -> Request
     ensures { result ≡ set_lamp_at s.now place at }
 {
     match text::field::field_within(s, at, 1, Ask::MOST_TARGET) {
-        Field::Bad => Request::Fault { number: 23, place },
-        Field::Good(target, end) => ramp_at(s, place, target as u8, after_comma(s, end)),
+        None => Request::Fault { number: 23, place },
+        Some((target, end)) => ramp_at(s, place, target as u8, after_comma(s, end)),
     }
 }
 
@@ -156,19 +157,17 @@ fn at_address(s: &[u8], name: Name, place: Place, end: usize) -> Request
 }
 
 // A request that has an address.
+#[tactic(auto, unfolding(crate::specs::Request::addressed))]
 fn addressed(s: &[u8], name: Name) -> Request
     ensures { result ≡ addressed s.now name }
 {
     let at = after_comma(s, crate::name::name_end(name));
-    match crate::address::address_at(s, at) {
-        Address::Bad => fault(17),
-        Address::At(place, end) => {
-            let number = crate::address::address_fault(name, place);
-            if number != 0 {
-                return fault(number);
-            }
-            at_address(s, name, place, end)
-        }
+    let Some((place, end)) = crate::address::address_at(s, at) else {
+        return fault(17);
+    };
+    match crate::address::address_fault(name, place) {
+        Ok(()) => at_address(s, name, place, end),
+        Err(number) => fault(number),
     }
 }
 
@@ -183,6 +182,7 @@ fn worded(s: &[u8], word: Word) -> Request
 }
 
 // The request that a line is, for any bytes.
+#[tactic(auto, unfolding(crate::specs::Request::read_request))]
 pub fn read_request(s: &[u8]) -> Request
     ensures { result ≡ read_request s.now }
 {
@@ -193,7 +193,7 @@ pub fn read_request(s: &[u8]) -> Request
         return fault(1);
     }
     match crate::name::word_at(s) {
-        WordRead::Unknown => fault(1),
-        WordRead::Known(word) => worded(s, word),
+        Some(word) => worded(s, word),
+        None => fault(1),
     }
 }

@@ -14,7 +14,7 @@ use Rattle.laws.proofs.Choice.{by_test, clash, and_true, and_false, between_true
 use Rattle.laws.proofs.Lists.{drop_next, all_more, all_stop, all_done}
 use Rattle.words.specs.Digits.{is_digit, worth}
 use Rattle.text.proofs.Reading.{digit_range}
-use Rattle.script.specs.declared.input.Figures.TheVariants.{Bad, Good}
+use Rattle.std.proofs.Common.{Some, None}
 use Rattle.script.specs.Input.{is_number, figures_of}
 
 -- no digits, or too many
@@ -27,14 +27,14 @@ unfolding is_number
 too_many w h = rw (le-leb 1 (length w) (omega arith), lt-leb (length w) 10 h)
 
 -- what the word was, by what was read of it
-pub bad_word : (w : List ℕ) → figures_of w ≡ Bad → is_number w ≡ false
-bad_word w e = by_test (is_number w) (λ t. let f : Good (worth 0 w) ≡ Bad = rw t at e in clash (cc)) (λ t. t)
+pub bad_word : (w : List ℕ) → figures_of w ≡ None → is_number w ≡ false
+bad_word w e = by_test (is_number w) (λ t. let f : Some (worth 0 w) ≡ None = rw t at e in clash (cc)) (λ t. t)
 
-pub good_word : (w : List ℕ) (v : ℕ) → figures_of w ≡ Good v → (is_number w ≡ true) × (worth 0 w ≡ v)
+pub good_word : (w : List ℕ) (v : ℕ) → figures_of w ≡ Some v → (is_number w ≡ true) × (worth 0 w ≡ v)
 good_word w v e =
     by_test (is_number w)
-    (λ t. let f : Good (worth 0 w) ≡ Good v = rw t at e in (t, cc))
-    (λ t. let f : Bad ≡ Good v = rw t at e in clash (cc))
+    (λ t. let f : Some (worth 0 w) ≡ Some v = rw t at e in (t, cc))
+    (λ t. let f : None ≡ Some v = rw t at e in clash (cc))
 
 -- what is known after i digits worth v: what is left gives the same number
 pub record Figured (w : List ℕ) (v i : ℕ) : Type 0 where

@@ -16,7 +16,7 @@ use Rattle.words.specs.Digits.{is_digit, worth}
 use Rattle.text.proofs.Reading.{digit_range}
 use Rattle.script.specs.declared.input.Input.{Input}
 use Rattle.script.specs.declared.input.Input.TheVariants.{Other, Line, Reading, Closing, Waiting}
-use Rattle.script.specs.declared.input.Figures.TheVariants.{Bad, Good}
+use Rattle.std.proofs.Common.{Some, None}
 use Rattle.script.specs.Input.{is_number, word, input_of, figures_of, reading_in, call_in}
 use Rattle.script.proofs.Figures.{bad_word, good_word}
 use Rattle.script.proofs.Parting.{up_to_free, up_to_length, up_to_take, parted, whole, parted_behind, parted_free}
@@ -94,10 +94,10 @@ module _ (s : List ℕ) where
 
 -- ---- a letter, and all that stands behind the space
 module _ (x : ℕ) (s : List ℕ) (ne : x ≡ 114 → ⊥) where
-  pub call_bad : figures_of s ≡ Bad → call_in x s ≡ Other
+  pub call_bad : figures_of s ≡ None → call_in x s ≡ Other
   call_bad f = rw (ne_eqb x 114 ne, bad_word s f) (simp and_false)
 
-  pub call_good : (n : ℕ) → figures_of s ≡ Good n → call_in x s ≡ cond (eqb x 120) (Closing n) (cond (eqb x 119) (Waiting n) Other)
+  pub call_good : (n : ℕ) → figures_of s ≡ Some n → call_in x s ≡ cond (eqb x 120) (Closing n) (cond (eqb x 119) (Waiting n) Other)
   call_good n f = let g = good_word s n f in rw (ne_eqb x 114 ne, g.0, g.1) (simp and_yes)
 
 -- ---- by what is found: where the first word ends, and the numbers that words are
@@ -119,14 +119,14 @@ module _ (s : List ℕ) {end : ℕ} (e : end ≡ 0 + length (up_to 32 (drop 0 s)
   pub reading_whole : end ≡ length s → reading_in s ≡ Other
   reading_whole h = two_whole s (omega (arith, ended))
 
-  pub reading_no_port : figures_of (take end s) ≡ Bad → reading_in s ≡ Other
+  pub reading_no_port : figures_of (take end s) ≡ None → reading_in s ≡ Other
   reading_no_port f = two_first s (sym (ap is_number head) ∙ bad_word (take end s) f)
 
-  pub reading_no_value : (end ≡ length s → ⊥) → figures_of (take (length s - (end + 1)) (drop (end + 1) s)) ≡ Bad → reading_in s ≡ Other
+  pub reading_no_value : (end ≡ length s → ⊥) → figures_of (take (length s - (end + 1)) (drop (end + 1) s)) ≡ None → reading_in s ≡ Other
   reading_no_value ne f = two_last s (sym (ap is_number (tail ne)) ∙ bad_word (take (length s - (end + 1)) (drop (end + 1) s)) f)
 
-  pub reading_is : (end ≡ length s → ⊥) → (p v : ℕ) → figures_of (take end s) ≡ Good p
-      → figures_of (take (length s - (end + 1)) (drop (end + 1) s)) ≡ Good v → reading_in s ≡ Reading p v
+  pub reading_is : (end ≡ length s → ⊥) → (p v : ℕ) → figures_of (take end s) ≡ Some p
+      → figures_of (take (length s - (end + 1)) (drop (end + 1) s)) ≡ Some v → reading_in s ≡ Reading p v
   reading_is ne p v f g =
       let a = good_word (take end s) p f in
       let b = good_word (take (length s - (end + 1)) (drop (end + 1) s)) v g in
@@ -136,15 +136,15 @@ module _ (s : List ℕ) {end : ℕ} (e : end ≡ 0 + length (up_to 32 (drop 0 s)
   pub input_whole : end ≡ length s → input_of s ≡ Other
   input_whole h = no_space s (omega (arith, ended))
 
-  pub input_line : (end ≡ length s → ⊥) → (n : ℕ) → figures_of (take end s) ≡ Good n → input_of s ≡ Line n (end + 1)
+  pub input_line : (end ≡ length s → ⊥) → (n : ℕ) → figures_of (take end s) ≡ Some n → input_of s ≡ Line n (end + 1)
   input_line ne n f =
       let a = good_word (take end s) n f in
       a_line s (within ne) (sym (ap is_number head) ∙ a.0) ∙ rw (sym (ap (worth 0) head) ∙ a.1, ended, add-one)
 
-  pub input_long : figures_of (take end s) ≡ Bad → (end ≡ 1 → ⊥) → input_of s ≡ Other
+  pub input_long : figures_of (take end s) ≡ None → (end ≡ 1 → ⊥) → input_of s ≡ Other
   input_long f ne = long_word s (sym (ap is_number head) ∙ bad_word (take end s) f) (λ one. ne (sym ended ∙ one))
 
-  pub input_call : (end ≡ length s → ⊥) → figures_of (take end s) ≡ Bad → end ≡ 1
+  pub input_call : (end ≡ length s → ⊥) → figures_of (take end s) ≡ None → end ≡ 1
       → input_of s ≡ call_in (get_or s 0 0) (take (length s - 2) (drop 2 s))
   input_call ne f one =
       a_call s (within ne) (sym (ap is_number head) ∙ bad_word (take end s) f) (ended ∙ one)

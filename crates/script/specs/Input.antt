@@ -1,14 +1,12 @@
 -- A line of the script, without its LF. Document 01: "The bench program reads standard input: `c request` (one line, as it stands), `r p v` a
 -- reading, `x c` a closing, `w n` a wait, each ended by LF, numbers of 1 to 10 digits." "a line of another form is `!`."
-use Rattle.std.specs.Prelude.{ℕ, suc, Bool, cond, not, ◌&&◌, List, [], ◌∷◌, eqb, length}
+use Rattle.std.specs.Prelude.{ℕ, suc, Bool, cond, not, ◌&&◌, Option, Some, None, List, [], ◌∷◌, eqb, length}
 use Rattle.laws.specs.Bytes.{bytes}
 use Rattle.laws.specs.Checks.{◌⇒◌, first, between}
 use Rattle.laws.specs.Lists.{all, same, part, behind, free}
 use Rattle.words.specs.Digits.{is_digit, worth}
 use Rattle.script.specs.declared.input.Input.{Input}
 use Rattle.script.specs.declared.input.Input.TheVariants.{Other, Line, Reading, Closing, Waiting}
-use Rattle.script.specs.declared.input.Figures.{Figures}
-use Rattle.script.specs.declared.input.Figures.TheVariants.{Bad, Good}
 
 -- "numbers of 1 to 10 digits"
 unfoldable pub is_number : List ℕ → Bool
@@ -33,8 +31,8 @@ input_of s = first
 -- ---- as the code reads it
 
 -- the number that a word is
-abbrev pub figures_of : List ℕ → Figures
-figures_of w = cond (is_number w) (Good (worth 0 w)) Bad
+abbrev pub figures_of : List ℕ → Option ℕ
+figures_of w = cond (is_number w) (Some (worth 0 w)) None
 
 -- two numbers
 abbrev pub reading_in : List ℕ → Input

@@ -14,34 +14,27 @@ pub enum Input {
     Waiting(u64),
 }
 
-// A number, or none.
-#[derive(Clone, Copy)]
-pub enum Figures {
-    Bad,
-    Good(u64),
-}
-
 // The number that a word is, of 1 to 10 digits.
-fn figures_of(w: &[u8]) -> Figures
+fn figures_of(w: &[u8]) -> Option<u64>
     ensures { result ≡ figures_of w.now }
 {
     if w.len() == 0 {
-        return Figures::Bad;
+        return None;
     }
     if 10 < w.len() {
-        return Figures::Bad;
+        return None;
     }
     let mut value: u64 = 0;
     let mut i = 0;
     while i < w.len() {
         let b = w[i];
         if !text::number::is_digit(b) {
-            return Figures::Bad;
+            return None;
         }
         value = value * 10 + (b - b'0') as u64;
         i += 1;
     }
-    Figures::Good(value)
+    Some(value)
 }
 
 // Two numbers, which a reading has.
@@ -53,10 +46,10 @@ fn reading_in(s: &[u8]) -> Input
         return Input::Other;
     }
     let next = end + 1;
-    let Figures::Good(port) = figures_of(&s[..end]) else {
+    let Some(port) = figures_of(&s[..end]) else {
         return Input::Other;
     };
-    let Figures::Good(value) = figures_of(&s[next..]) else {
+    let Some(value) = figures_of(&s[next..]) else {
         return Input::Other;
     };
     Input::Reading(port, value)
@@ -69,7 +62,7 @@ fn call_in(letter: u8, s: &[u8]) -> Input
     if letter == b'r' {
         return reading_in(s);
     }
-    let Figures::Good(number) = figures_of(s) else {
+    let Some(number) = figures_of(s) else {
         return Input::Other;
     };
     if letter == b'x' {
@@ -91,8 +84,8 @@ fn words_of(s: &[u8]) -> Input
     }
     let next = end + 1;
     match figures_of(&s[..end]) {
-        Figures::Good(connection) => Input::Line(connection, next),
-        Figures::Bad => {
+        Some(connection) => Input::Line(connection, next),
+        None => {
             if end != 1 {
                 return Input::Other;
             }

@@ -3,6 +3,7 @@ use Prim.Native.Nat.{ℕ, suc, ◌+◌, ◌-◌, ◌≤◌}
 use mathlib.Core.Path.{◌≡◌, refl, sym, ap, ◌∙◌, subst}
 use mathlib.Core.Bool.{true}
 use mathlib.Core.List.{List, [], ◌∷◌, ◌++◌, map}
+use Rattle.std.proofs.Common.{Option, Some, None}
 use native.Mathlib.Omega.{arith}
 use borrow.Author.Tests.{ne_eqb}
 use lib.ListN.{length}
@@ -10,6 +11,7 @@ use Rattle.laws.specs.Checks.{between}
 use Rattle.laws.specs.Lists.{all}
 use Rattle.laws.proofs.Choice.{clash, and_left, between_least, between_most}
 use Rattle.meaning.specs.Table.{Call, waiting}
+use Rattle.pace.specs.declared.Micros.{Micros}
 use Rattle.connector.specs.declared.Completion.{Completion}
 use Rattle.hub.specs.Record.{fresh_hub}
 use Rattle.hub.specs.Completions.{completions_of}
@@ -17,8 +19,6 @@ use Rattle.hub.specs.Wait.{completed, wait_call}
 use Rattle.history.specs.Waiting.{moved_by, Reached, reached, at, afterwards}
 use Rattle.history.proofs.Calling.{listed_of}
 use Rattle.history.proofs.Composing.{waiting_composes, waits_within}
-use Rattle.server.specs.declared.Due.{Due}
-use Rattle.server.specs.declared.Due.TheVariants.{Nothing, In}
 use Rattle.server.specs.Record.{all_buffers}
 use Rattle.server.specs.Calls.{first_due, due_of}
 use Rattle.served.specs.Events.{Event, history_of}
@@ -27,9 +27,9 @@ use Rattle.served.specs.Due.{completed_in, DueExactly, not_soon, soon}
 use Rattle.served.proofs.Serving.{reached_append, given}
 
 -- a list of completions, by its first
-abbrev first_of : List Completion → Due
-first_of [] = Nothing
-first_of (x ∷ l) = In x.moment
+abbrev first_of : List Completion → Option Micros
+first_of [] = None
+first_of (x ∷ l) = Some x.moment
 
 first_of_law : (l : List Completion) → first_due (completions_of l) ≡ first_of l
 first_of_law [] = refl

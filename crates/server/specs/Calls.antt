@@ -1,5 +1,6 @@
 -- The events beside pieces, and when the next completion is due.
-use Rattle.std.specs.Prelude.{ℕ, cond, ltb, eqb, set, get_or}
+use Rattle.std.specs.Prelude.{ℕ, cond, Option, Some, None, ltb, eqb, set, get_or}
+use Rattle.pace.specs.declared.Micros.{Micros}
 use Rattle.lines.specs.Take.{fresh_assembler}
 use Rattle.connector.specs.declared.Answer.TheVariants as answer
 use Rattle.hub.specs.declared.completions.Completions.{Completions}
@@ -10,8 +11,6 @@ use Rattle.hub.specs.Wait as wait
 use Rattle.server.specs.declared.Server.{Server}
 use Rattle.server.specs.declared.Served.{Served}
 use Rattle.server.specs.declared.WaitServed.{WaitServed}
-use Rattle.server.specs.declared.Due.{Due}
-use Rattle.server.specs.declared.Due.TheVariants.{Nothing, In}
 use Rattle.server.specs.Record.{server_of}
 
 -- "Closing a connection ..: its transmissions run on with no owner, and its unfinished line is dropped."
@@ -33,9 +32,9 @@ wait_call s n =
     record { server = server_of waited.hub s.assemblers; answer = waited.answer; completions = waited.completions }
 
 -- the moment of the first of some completions
-abbrev pub first_due : Completions → Due
-first_due done = cond (eqb done.count 0) Nothing (In (get_or done.items 0 no_completion).moment)
+abbrev pub first_due : Completions → Option Micros
+first_due done = cond (eqb done.count 0) None (Some (get_or done.items 0 no_completion).moment)
 
 -- as the longest wait would show it
-abbrev pub due_of : Server → Due
+abbrev pub due_of : Server → Option Micros
 due_of s = first_due (wait.wait_call s.hub 1000000000).completions

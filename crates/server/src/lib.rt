@@ -46,13 +46,6 @@ pub struct WaitServed {
     pub completions: Completions,
 }
 
-// When the next completion is due: not within the longest wait, or in so many microseconds.
-#[derive(Clone, Copy)]
-pub enum Due {
-    Nothing,
-    In(Micros),
-}
-
 impl Server {
     // 0 to 7.
     pub const CONNECTIONS: usize = 8;
@@ -163,20 +156,17 @@ impl Server {
         self.hub.levels()
     }
 
-    // When the next completion is due, as the longest wait would show it. It changes nothing.
-    pub fn due(self) -> Due
+    // In how many microseconds the next completion is due, as the longest wait would show it; none, where it shows none. It changes nothing.
+    pub fn due(self) -> Option<Micros>
         requires { SoundServer self }
         ensures { result ≡ due_of self }
     {
         let waited = self.hub.wait(Micros(Hub::MOST_WAIT));
         let completions = waited.completions;
         if completions.count == 0 {
-            return Due::Nothing;
+            return None;
         }
-        let items = completions.items;
-        let first = items[0];
-        let moment = first.moment;
-        Due::In(moment)
+        Some(completions.items[0].moment)
     }
 }
 

@@ -6,6 +6,7 @@ use mathlib.Core.Bool.{Bool, cond, not, ◌&&◌}
 use mathlib.Core.List.{List, [], ◌∷◌}
 use mathlib.Core.Option.{Option, none, some}
 use lib.Dec.{ltb, eqb}
+use Rattle.std.proofs.Common as std
 use Rattle.laws.specs.Checks.{◌⇒◌, first, is_some}
 use Rattle.words.specs.declared.Pair.{Pair}
 use Rattle.words.specs.declared.Fields.{Fields}
@@ -30,11 +31,10 @@ use Rattle.store.specs.Store.{alike}
 use Rattle.pace.specs.Pace.{micros}
 use Rattle.connector.specs.declared.Owner.{Owner}
 use Rattle.connector.specs.declared.Owner.TheVariants.{Nobody, Connection}
-use Rattle.connector.specs.declared.Contact.{Contact}
-use Rattle.connector.specs.declared.Contact.TheVariants.{Unread, Read}
 use Rattle.connector.specs.declared.Completion.{Completion}
 use Rattle.connector.specs.declared.Answer.{Answer}
 use Rattle.connector.specs.declared.Answer.TheVariants as answer
+use Rattle.connector.specs.Record.{unread}
 use Rattle.connector.specs.Change.{same_mode, owns}
 use Rattle.steps.specs.Send.{same_fields}
 use Rattle.steps.specs.Step.{also_told}
@@ -43,7 +43,7 @@ use Rattle.steps.specs.Step.{also_told}
 pub record Known : Type 0 where
   pub owner : Owner
   pub mode : Mode
-  pub contact : Contact
+  pub contact : std.Option ℕ
   pub sending : Option Transmission
   pub lamp : Lamp
 
@@ -82,7 +82,7 @@ sent_to t connection x (sent f ps) = commanded t connection x f ps (until t x.se
 abbrev pub with_mode : Known → Mode → Known
 with_mode x mode =
     cond (same_mode x.mode mode) x
-    (record { owner = x.owner; mode = mode; contact = Unread; sending = x.sending; lamp = dark })
+    (record { owner = x.owner; mode = mode; contact = unread; sending = x.sending; lamp = dark })
 
 -- whatever is asked
 abbrev pub asked : ℕ → ℕ → List ℕ → Known → Ask → Known
@@ -130,9 +130,9 @@ abbrev pub error_line : ℕ → Place → Answer
 error_line number place = reply_alone (reply.Error number place)
 
 -- getstate of a connector in SENSOR
-abbrev pub contact_said : Place → Contact → Answer
-contact_said place Unread = error_line 28 place
-contact_said place (Read value) = reply_alone (reply.State place value)
+abbrev pub contact_said : Place → std.Option ℕ → Answer
+contact_said place std.None = error_line 28 place
+contact_said place (std.Some value) = reply_alone (reply.State place value)
 
 -- a command without a fault, by what is on air
 abbrev pub command_said : ℕ → Place → Known → Fields → Option Transmission → Answer
@@ -184,7 +184,7 @@ request_said t K R connection text (request.Relay place turn) = reply_alone (rep
 -- ---- a reading, and the completion of a wait
 -- the contact read
 abbrev pub with_reading : Known → ℕ → Known
-with_reading x value = record { owner = x.owner; mode = x.mode; contact = Read value; sending = x.sending; lamp = x.lamp }
+with_reading x value = record { owner = x.owner; mode = x.mode; contact = std.Some value; sending = x.sending; lamp = x.lamp }
 
 -- what a reading makes of a connector: 104 changes nothing
 abbrev pub read_as : Known → ℕ → Known

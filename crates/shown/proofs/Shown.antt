@@ -8,6 +8,7 @@ use native.Mathlib.Omega.{arith}
 use lib.Dec.{eqb}
 use lib.ListN.{length, take}
 use borrow.Author.Tests.{eq-eqb, eqb-true}
+use Rattle.std.proofs.Common as std
 use Rattle.laws.specs.Checks.{holds, is_some}
 use Rattle.laws.proofs.Choice.{by_test, not_both, cond_map}
 use Rattle.words.specs.declared.Pair.{Pair}
@@ -33,10 +34,9 @@ use Rattle.waveform.specs.Paced.{Fit, pace_at}
 use Rattle.waveform.proofs.Paced.{pace_started, pace_renewed, started_runs, renewed_runs, complete_later, passed_is, fit_later}
 use Rattle.waveform.proofs.Carried.{carrier_paced}
 use Rattle.connector.specs.declared.Owner.TheVariants.{Nobody, Connection}
-use Rattle.connector.specs.declared.Contact.TheVariants.{Unread}
 use Rattle.connector.specs.declared.Run.{Run}
-use Rattle.connector.specs.declared.Sending.TheVariants.{Idle, Running}
 use Rattle.connector.specs.declared.Connector.{Connector}
+use Rattle.connector.specs.Record.{unread, idle}
 use Rattle.connector.specs.Change as change
 use Rattle.connector.specs.Change.{is_running, owns, owner_left, same_mode}
 use Rattle.connector.specs.Pass.{passing, passing_run, passing_lamp, after, done_of}
@@ -56,9 +56,9 @@ run_at s t = record { fields = s.fields; count = length s.pairs; pace = pace_at 
 
 -- a connector that has this on air; an idle one has no owner
 abbrev pub shown_as : ℕ → Known → Option Transmission → Connector
-shown_as t x none = record { owner = Nobody; mode = x.mode; contact = x.contact; sending = Idle; lamp = shown_at x.lamp t }
+shown_as t x none = record { owner = Nobody; mode = x.mode; contact = x.contact; sending = idle; lamp = shown_at x.lamp t }
 shown_as t x (some s) =
-    record { owner = x.owner; mode = x.mode; contact = x.contact; sending = Running (run_at s t); lamp = shown_at x.lamp t }
+    record { owner = x.owner; mode = x.mode; contact = x.contact; sending = std.Some (run_at s t); lamp = shown_at x.lamp t }
 
 -- a connector at a moment
 abbrev pub shown : ℕ → Known → Connector
@@ -152,12 +152,12 @@ pub with_mode_shown : (t : ℕ) (x : Known) (mode : Mode) → transmits t x ≡ 
     → shown t (with_mode x mode) ≡ change.with_mode (shown t x) mode
 unfolding change.with_mode shown_at
 with_mode_shown t x mode e =
-    cond_map (shown t) (same_mode x.mode mode) x (record { owner = x.owner; mode = mode; contact = Unread; sending = x.sending; lamp = dark })
+    cond_map (shown t) (same_mode x.mode mode) x (record { owner = x.owner; mode = mode; contact = unread; sending = x.sending; lamp = dark })
     ∙ go (until t x.sending) e
   where
     go : (o : Option Transmission) → is_some o ≡ false
         → cond (same_mode x.mode mode) (shown_as t x o)
-        (shown_as t (record { owner = x.owner; mode = mode; contact = Unread; sending = x.sending; lamp = dark }) o)
+        (shown_as t (record { owner = x.owner; mode = mode; contact = unread; sending = x.sending; lamp = dark }) o)
         ≡ change.with_mode (shown_as t x o) mode
     go none e = refl
     go (some s) e = not_both refl e
@@ -214,13 +214,13 @@ module _ (t connection : ℕ) (x : Known) (f : Fields) (ps : List Pair) where
   -- a command that starts
   pub started_shown : Accepts f ps
       → shown t (with_sending x (Connection connection) (some (started f ps t)))
-      ≡ change.with_sending (shown t x) (Connection connection) (Running (run_of f ps))
+      ≡ change.with_sending (shown t x) (Connection connection) (std.Some (run_of f ps))
   unfolding run_of started
   started_shown l = rw (started_runs f ps t l.fields l.code l.offset) (go (until t x.sending))
     where
       go : (o : Option Transmission)
           → shown_as t (with_sending x (Connection connection) (some (started f ps t))) (some (started f ps t))
-          ≡ change.with_sending (shown_as t x o) (Connection connection) (Running (run_of f ps))
+          ≡ change.with_sending (shown_as t x o) (Connection connection) (std.Some (run_of f ps))
       go none = rw (pace_started f ps t)
       go (some s) = rw (pace_started f ps t)
 

@@ -7,6 +7,7 @@ use mathlib.Core.Option.{Option, none, some}
 use native.Mathlib.Omega.{arith}
 use borrow.Author.Tests.{eqb-true, eq-eqb, ltb-true, ltb-false, lt-leb, le-leb}
 use lib.Dec.{eqb, ltb}
+use Rattle.std.proofs.Common as std
 use Rattle.laws.specs.Checks.{between, holds, is_some}
 use Rattle.laws.specs.Lists.{same}
 use Rattle.laws.proofs.Choice.{by_test, cond_case, between_true}
@@ -33,8 +34,6 @@ use Rattle.command.specs.Read.{CommandReading, sent, faulty, command_at}
 use Rattle.store.specs.Store.{alike}
 use Rattle.connector.specs.declared.Owner.{Owner}
 use Rattle.connector.specs.declared.Owner.TheVariants.{Nobody, Connection}
-use Rattle.connector.specs.declared.Contact.{Contact}
-use Rattle.connector.specs.declared.Contact.TheVariants.{Unread, Read}
 use Rattle.connector.specs.Change.{same_mode, owns, owner_left}
 use Rattle.steps.specs.Send.{same_fields}
 use Rattle.theorems.specs.Deeds.{in_sensor, in_lighting, silent}
@@ -52,9 +51,9 @@ owner_in none = Nobody
 owner_in (some connection) = Connection connection
 
 -- a contact by its last reading
-abbrev pub contact_in : Option ℕ → Contact
-contact_in none = Unread
-contact_in (some value) = Read value
+abbrev pub contact_in : Option ℕ → std.Option ℕ
+contact_in none = std.None
+contact_in (some value) = std.Some value
 
 -- what the log shows at a port
 abbrev pub view : List Deed → ℕ → Known

@@ -6,6 +6,7 @@ use mathlib.Core.List.{List}
 use native.Mathlib.Omega.{arith}
 use lib.ListN.{length, take}
 use lib.Seq.{take_all}
+use Rattle.std.proofs.Common.{Ok, Err}
 use Rattle.laws.specs.Lists.{numbers}
 use Rattle.words.specs.declared.Pair.{Pair}
 use Rattle.words.specs.declared.Fields.{Fields}
@@ -14,7 +15,6 @@ use Rattle.words.proofs.Standing.{pairs_back, counts_first, pairs_many, pairs_co
 use Rattle.meaning.specs.Time.{lasts}
 use Rattle.request.specs.declared.Place.{Place}
 use Rattle.request.specs.Mode.{is_silent}
-use Rattle.command.specs.declared.read.CommandRead.TheVariants.{Fault, Sent}
 use Rattle.command.specs.Read.{command_at, found_in, CommandInto, Accepts}
 use Rattle.command.proofs.Commands.{fault_read, sent_read, command_within}
 use Rattle.pace.specs.Pace.{periods}
@@ -61,7 +61,7 @@ module _ (text : List ℕ) (at : ℕ) where
   abbrev found : List Pair
   found = found_in (command_at text at)
 
-  module _ {before memory : List ℕ} {f : Fields} {n : ℕ} (k : CommandInto (command_at text at) before (Sent f n) memory) where
+  module _ {before memory : List ℕ} {f : Fields} {n : ℕ} (k : CommandInto (command_at text at) before (Ok (f, n)) memory) where
     -- it is within the limits
     sent_within : Accepts f found
     sent_within = command_within text at f found (sent_read (command_at text at) k.result).0
@@ -83,7 +83,7 @@ module _ (text : List ℕ) (at : ℕ) where
   module _ (c : Connector) (kept : List ℕ) (connection : ℕ) (place : Place) (ready : is_silent c.mode ≡ false) {r : Stepped} {before memory : List ℕ}
       {n : ℕ} where
     -- a command with a fault
-    pub fault_answered : CommandInto (command_at text at) before (Fault n) memory → r ≡ fails n place
+    pub fault_answered : CommandInto (command_at text at) before (Err n) memory → r ≡ fails n place
         → Makes (send_step c kept connection text place at) r kept
     unfolding send_step
     fault_answered k e =
@@ -91,7 +91,7 @@ module _ (text : List ℕ) (at : ℕ) where
         record { result = rw (ready, is) e; counts = rw (ready, is) }
 
     -- and one without
-    pub sent_answered : {f : Fields} {after : List ℕ} → CommandInto (command_at text at) before (Sent f n) memory
+    pub sent_answered : {f : Fields} {after : List ℕ} → CommandInto (command_at text at) before (Ok (f, n)) memory
         → Makes (command_step c kept connection place f (pairs_of (counts_in memory n))) r after
         → Makes (send_step c kept connection text place at) r after
     unfolding send_step

@@ -6,6 +6,7 @@ use mathlib.Core.List.{List}
 use native.Mathlib.Omega.{arith}
 use lib.ListN.{length, take, drop}
 use lib.Seq.{length-sets}
+use Rattle.std.proofs.Common.{Option, Some, None}
 use Rattle.laws.proofs.Choice.{cond_case}
 use Rattle.laws.proofs.Storing.{stores_stored}
 use Rattle.words.specs.declared.Pair.{Pair}
@@ -23,8 +24,6 @@ use Rattle.request.specs.Accepted.{AskWithin}
 use Rattle.request.specs.Mode.{is_sensor, is_lighting, is_silent}
 use Rattle.command.specs.Read.{CommandReading, sent, faulty, command_at, Accepts}
 use Rattle.command.proofs.Commands.{command_within}
-use Rattle.connector.specs.declared.Contact.{Contact}
-use Rattle.connector.specs.declared.Contact.TheVariants.{Unread, Read}
 use Rattle.connector.specs.declared.Connector.{Connector}
 use Rattle.connector.specs.declared.Stepped.{Stepped}
 use Rattle.connector.specs.Record.{SoundRun, SoundConnector, SoundChange}
@@ -69,9 +68,9 @@ module _ (c : Connector) (kept : List ℕ) (connection : ℕ) (text : List ℕ) 
     contact_sound =
         cond_case (λ (s : Stepped). SoundChange s.change) (not (is_sensor c.mode)) _ _ (λ _. tt) (λ _. go c.contact)
       where
-        go : (contact : Contact) → SoundChange (contact_says place contact).change
-        go Unread = tt
-        go (Read value) = tt
+        go : (contact : Option ℕ) → SoundChange (contact_says place contact).change
+        go None = tt
+        go (Some value) = tt
 
     -- a stopir
     stop_sound : SoundChange (stops c connection place).change

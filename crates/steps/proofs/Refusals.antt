@@ -4,6 +4,7 @@ use mathlib.Core.Path.{refl}
 use mathlib.Core.Bool.{Bool, not}
 use mathlib.Core.List.{List}
 use lib.Dec.{ltb}
+use Rattle.std.proofs.Common.{Option, Some, None}
 use Rattle.laws.proofs.Choice.{cond_case}
 use Rattle.words.specs.declared.Pair.{Pair}
 use Rattle.words.specs.declared.Fields.{Fields}
@@ -13,8 +14,6 @@ use Rattle.request.specs.declared.Ask.{Ask}
 use Rattle.request.specs.declared.Ask.TheVariants as ask
 use Rattle.request.specs.Mode.{is_sensor, is_lighting, is_silent}
 use Rattle.command.specs.Read.{CommandReading, sent, faulty, command_at}
-use Rattle.connector.specs.declared.Contact.{Contact}
-use Rattle.connector.specs.declared.Contact.TheVariants.{Unread, Read}
 use Rattle.connector.specs.declared.Connector.{Connector}
 use Rattle.connector.specs.declared.Stepped.{Stepped}
 use Rattle.connector.specs.Change.{is_running}
@@ -43,9 +42,9 @@ module _ (c : Connector) (kept : List ℕ) (connection : ℕ) (text : List ℕ) 
   unfolding get_contact
   contact_refused = cond_case KeepsConnector (not (is_sensor c.mode)) _ _ (λ _ _. refl) (λ _. go c.contact)
     where
-      go : (contact : Contact) → KeepsConnector (contact_says place contact)
-      go Unread r = refl
-      go (Read value) r = absurd r
+      go : (contact : Option ℕ) → KeepsConnector (contact_says place contact)
+      go None r = refl
+      go (Some value) r = absurd r
 
   -- 013 of a stopir
   stop_refused : KeepsConnector (stops c connection place)

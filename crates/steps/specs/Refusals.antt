@@ -1,11 +1,10 @@
 -- What is refused. Document 01: "Calls themselves refuse with a number, nothing written and nothing changed"; of an error line "It is the
 -- whole written reply, and the hub stays unchanged"; and busyIR. That all stays as it was is proved in proofs/Refusals.antt.
-use Rattle.std.specs.Prelude.{ℕ, ◌≡◌, List}
+use Rattle.std.specs.Prelude.{ℕ, ◌≡◌, None, List}
 use Rattle.reply.specs.declared.Reply.{Reply}
 use Rattle.reply.specs.declared.Reply.TheVariants as reply
 use Rattle.connector.specs.declared.Answer.{Answer}
 use Rattle.connector.specs.declared.Answer.TheVariants as answer
-use Rattle.connector.specs.declared.Change.TheVariants.{Nothing}
 use Rattle.connector.specs.declared.Stepped.{Stepped}
 use Rattle.steps.specs.Step.{Made}
 
@@ -27,8 +26,8 @@ Refuses (answer.Reply r also) = RefusesBy r
 
 -- where it is refused, nothing changes
 abbrev pub KeepsConnector : Stepped → Type 0
-KeepsConnector s = Refuses s.answer → s.change ≡ Nothing
+KeepsConnector s = Refuses s.answer → s.change ≡ None
 
 -- and the counts stay too
 abbrev pub KeepsBoth : List ℕ → Made → Type 0
-KeepsBoth kept made = Refuses made.stepped.answer → (made.stepped.change ≡ Nothing) × (made.kept ≡ kept)
+KeepsBoth kept made = Refuses made.stepped.answer → (made.stepped.change ≡ None) × (made.kept ≡ kept)

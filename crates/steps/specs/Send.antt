@@ -1,5 +1,5 @@
 -- What a sendir without a fault does to a connector.
-use Rattle.std.specs.Prelude.{ℕ, ◌*◌, ◌/◌, Bool, false, not, List, [], ◌∷◌, eqb, length, take, drop}
+use Rattle.std.specs.Prelude.{ℕ, ◌*◌, ◌/◌, Bool, false, not, Option, Some, None, List, [], ◌∷◌, eqb, length, take, drop}
 use Rattle.laws.specs.Checks.{◌⇒◌, first}
 use Rattle.words.specs.declared.Pair.{Pair}
 use Rattle.words.specs.declared.Fields.{Fields}
@@ -9,8 +9,6 @@ use Rattle.pace.specs.Pace as pace
 use Rattle.store.specs.Store.{alike}
 use Rattle.connector.specs.declared.Owner.{Owner}
 use Rattle.connector.specs.declared.Run.{Run}
-use Rattle.connector.specs.declared.Sending.{Sending}
-use Rattle.connector.specs.declared.Sending.TheVariants.{Idle, Running}
 use Rattle.connector.specs.declared.Connector.{Connector}
 use Rattle.connector.specs.Change.{owns}
 use Rattle.steps.specs.declared.send.Verdict.{Verdict}
@@ -48,9 +46,9 @@ same_command kept r f ps = first
 
 -- idle: it starts; "From another connection, or if there is no owner: busyIR"; from the owner, equal: renewed, "with any other field: the
 -- old one is dropped without a notice and the new one starts"
-abbrev pub verdict_in : List ℕ → Sending → Owner → ℕ → Fields → List Pair → Verdict
-verdict_in kept Idle owner connection f ps = verdict.Start
-verdict_in kept (Running r) owner connection f ps = first
+abbrev pub verdict_in : List ℕ → Option Run → Owner → ℕ → Fields → List Pair → Verdict
+verdict_in kept None owner connection f ps = verdict.Start
+verdict_in kept (Some r) owner connection f ps = first
     ((not (owns owner connection) ⇒ verdict.Busy)
     ∷ (same_command kept r f ps ⇒ verdict.Renew)
     ∷ []) verdict.Start

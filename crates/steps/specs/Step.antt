@@ -1,6 +1,6 @@
 -- What is asked of one connector: its answer, its change, and the counts that it keeps. In document 01's order: "sendir 013, 004, 005, 006,
 -- 007, code faults, 007 for an offset beyond the code, busyIR; set_IR .. 029; stopir .. 013; getstate .. 018, 028"; of a lamp 023, 017.
-use Rattle.std.specs.Prelude.{ℕ, ◌≡◌, Bool, cond, not, List, [], ◌∷◌}
+use Rattle.std.specs.Prelude.{ℕ, ◌≡◌, Bool, cond, not, Option, Some, None, List, [], ◌∷◌}
 use Rattle.laws.specs.Checks.{◌⇒◌, first}
 use Rattle.laws.specs.Put.{stored_in}
 use Rattle.words.specs.declared.Pair.{Pair}
@@ -19,12 +19,8 @@ use Rattle.reply.specs.declared.Reply.{Reply}
 use Rattle.reply.specs.declared.Reply.TheVariants as reply
 use Rattle.connector.specs.declared.Owner.{Owner}
 use Rattle.connector.specs.declared.Owner.TheVariants.{Nobody, Connection}
-use Rattle.connector.specs.declared.Contact.{Contact}
-use Rattle.connector.specs.declared.Contact.TheVariants.{Unread, Read}
-use Rattle.connector.specs.declared.Sending.TheVariants.{Running}
 use Rattle.connector.specs.declared.Connector.{Connector}
 use Rattle.connector.specs.declared.Answer.TheVariants as answer
-use Rattle.connector.specs.declared.Change.TheVariants as change
 use Rattle.connector.specs.declared.Stepped.{Stepped}
 use Rattle.connector.specs.Record.{stepping}
 use Rattle.connector.specs.Change.{is_running, owns, with_mode, with_lamp, with_sending, renewed, stopped}
@@ -48,7 +44,7 @@ keeping s kept = record { stepped = s; kept = kept }
 
 -- a reply for the asker alone
 abbrev pub says : Reply → Stepped
-says r = stepping (answer.Reply r Nobody) change.Nothing
+says r = stepping (answer.Reply r Nobody) None
 
 -- "It is the whole written reply, and the hub stays unchanged."
 abbrev pub fails : ℕ → Place → Stepped
@@ -58,15 +54,15 @@ fails number place = says (reply.Error number place)
 unfoldable pub set_mode : Connector → Place → Mode → Stepped
 set_mode c place mode =
     cond (is_running c.sending) (fails 29 place)
-    (stepping (answer.Reply (reply.Mode place mode) Nobody) (change.Becomes (with_mode c mode)))
+    (stepping (answer.Reply (reply.Mode place mode) Nobody) (Some (with_mode c mode)))
 
 abbrev pub get_mode : Connector → Place → Stepped
 get_mode c place = says (reply.Mode place c.mode)
 
 -- 018 "getstate on a connector not in SENSOR", 028 "getstate on an unread contact"
-abbrev pub contact_says : Place → Contact → Stepped
-contact_says place Unread = fails 28 place
-contact_says place (Read value) = says (reply.State place value)
+abbrev pub contact_says : Place → Option ℕ → Stepped
+contact_says place None = fails 28 place
+contact_says place (Some value) = says (reply.State place value)
 
 unfoldable pub get_contact : Connector → Place → Stepped
 get_contact c place = cond (not (is_sensor c.mode)) (fails 18 place) (contact_says place c.contact)
@@ -79,7 +75,7 @@ also_told owner connection = cond (owns owner connection) Nobody owner
 unfoldable pub stops : Connector → ℕ → Place → Stepped
 stops c connection place =
     cond (is_silent c.mode) (fails 13 place)
-    (stepping (answer.Reply (reply.Stopped place) (also_told c.owner connection)) (change.Becomes (stopped c)))
+    (stepping (answer.Reply (reply.Stopped place) (also_told c.owner connection)) (Some (stopped c)))
 
 -- ---- a lamp: "present level, target"
 abbrev pub lamp_reply : Place → Lamp → Reply
@@ -95,7 +91,7 @@ of_lamp c place more otherwise = first
 abbrev pub set_lamp : Connector → Place → ℕ → ℕ → Bool → Stepped
 set_lamp c place target ramp more =
     let next = turned c.lamp target ramp in
-    of_lamp c place more (stepping (answer.Reply (lamp_reply place next) Nobody) (change.Becomes (with_lamp c next)))
+    of_lamp c place more (stepping (answer.Reply (lamp_reply place next) Nobody) (Some (with_lamp c next)))
 
 abbrev pub get_lamp : Connector → Place → Bool → Stepped
 get_lamp c place more = of_lamp c place more (says (lamp_reply place c.lamp))
@@ -106,10 +102,10 @@ get_lamp c place more = of_lamp c place more (says (lamp_reply place c.lamp))
 abbrev pub by_verdict : Connector → List ℕ → ℕ → Place → Fields → List Pair → Verdict → Made
 by_verdict c kept connection place f ps verdict.Start =
     record {
-      stepped = stepping answer.Taken (change.Becomes (with_sending c (Connection connection) (Running (run_of f ps))));
+      stepped = stepping answer.Taken (Some (with_sending c (Connection connection) (Some (run_of f ps))));
       kept = stored_in kept 0 (counts_of ps);
     }
-by_verdict c kept connection place f ps verdict.Renew = keeping (stepping answer.Taken (change.Becomes (renewed c))) kept
+by_verdict c kept connection place f ps verdict.Renew = keeping (stepping answer.Taken (Some (renewed c))) kept
 by_verdict c kept connection place f ps verdict.Busy = keeping (says (reply.Busy place f.id)) kept
 
 unfoldable pub command_step : Connector → List ℕ → ℕ → Place → Fields → List Pair → Made

@@ -2,7 +2,7 @@
 ghost use Rattle.std.specs.Prelude.{◌≡◌};
 ghost use Rattle.steps.specs.Step.{says, fails};
 
-use connector::{Answer, Change, Owner, Stepped};
+use connector::{Answer, Owner, Stepped};
 use reply::Reply;
 use request::Place;
 
@@ -15,7 +15,7 @@ pub fn says(reply: Reply) -> Stepped
             reply,
             also: Owner::Nobody,
         },
-        change: Change::Nothing,
+        change: None,
     }
 }
 

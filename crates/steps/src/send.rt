@@ -3,13 +3,12 @@ ghost use Rattle.std.specs.Prelude.{◌≡◌, ◌*◌, ◌≤◌, ◌<◌, leng
 ghost use Rattle.code.specs.Limits.{most_pairs, most_counts};
 ghost use Rattle.words.specs.Pairs.{pairs_of, counts_in};
 ghost use Rattle.connector.specs.Record.{SoundConnector};
-ghost use Rattle.steps.specs.Send.{same_fields, verdict_of, run_of};
+ghost use Rattle.steps.specs.Send.{verdict_of, run_of};
 ghost use Rattle.steps.specs.Step.{Makes, command_step, send_step};
 
 use crate::answers::{fails, says};
 use code::Code;
-use command::read::CommandRead;
-use connector::{Answer, Change, Connector, Owner, Run, Sending, Stepped};
+use connector::{Answer, Connector, Owner, Run, Stepped};
 use pace::Pace;
 use reply::Reply;
 use request::Place;
@@ -23,22 +22,6 @@ pub enum Verdict {
     Busy,
 }
 
-// Whether two commands have equal fields.
-fn same_fields(a: Fields, b: Fields) -> bool
-    ensures { result ≡ same_fields a b }
-{
-    if a.id != b.id {
-        return false;
-    }
-    if a.freq != b.freq {
-        return false;
-    }
-    if a.repeat != b.repeat {
-        return false;
-    }
-    a.offset == b.offset
-}
-
 fn verdict_of(
     c: Connector,
     kept: &[u16],
@@ -50,27 +33,22 @@ fn verdict_of(
     requires { (length kept.now ≡ most_counts) × (count ≤ most_pairs) }
     ensures { result ≡ verdict_of c kept.now connection f (pairs_of (counts_in counts.now count)) }
 {
-    let sending = c.sending;
-    match sending {
-        Sending::Idle => Verdict::Start,
-        Sending::Running(run) => {
-            let owner = c.owner;
-            if !connector::records::owns(owner, connection) {
-                return Verdict::Busy;
-            }
-            let fields = run.fields;
-            if !same_fields(fields, f) {
-                return Verdict::Start;
-            }
-            if run.count != count {
-                return Verdict::Start;
-            }
-            if store::same(kept, counts, count) {
-                Verdict::Renew
-            } else {
-                Verdict::Start
-            }
-        }
+    let Some(run) = c.sending else {
+        return Verdict::Start;
+    };
+    if !connector::records::owns(c.owner, connection) {
+        return Verdict::Busy;
+    }
+    if run.fields != f {
+        return Verdict::Start;
+    }
+    if run.count != count {
+        return Verdict::Start;
+    }
+    if store::same(kept, counts, count) {
+        Verdict::Renew
+    } else {
+        Verdict::Start
     }
 }
 
@@ -109,20 +87,16 @@ fn commanded(
             let owner = Owner::Connection(connection);
             Stepped {
                 answer: Answer::Taken,
-                change: Change::Becomes(connector::records::with_sending(
-                    c,
-                    owner,
-                    Sending::Running(run),
-                )),
+                change: Some(connector::records::with_sending(c, owner, Some(run))),
             }
         }
         Verdict::Renew => Stepped {
             answer: Answer::Taken,
-            change: Change::Becomes(connector::records::renewed(c)),
+            change: Some(connector::records::renewed(c)),
         },
         Verdict::Busy => says(Reply::Busy {
             place,
-            id: f.id as u64,
+            id: u64::from(f.id),
         }),
     }
 }
@@ -139,13 +113,12 @@ pub fn send(
     requires { SoundConnector c × (length kept.old ≡ most_counts) }
     ensures { Makes (send_step c kept.old connection text.now place at) result kept.new }
 {
-    let mode = c.mode;
-    if request::mode::is_silent(mode) {
+    if request::mode::is_silent(c.mode) {
         return fails(13, place);
     }
     let mut counts = [0u16; Code::MOST_COUNTS];
     match command::read::command_at(text, at, &mut counts) {
-        CommandRead::Fault(number) => fails(number, place),
-        CommandRead::Sent(f, count) => commanded(c, kept, connection, place, f, &counts, count),
+        Err(number) => fails(number, place),
+        Ok((f, count)) => commanded(c, kept, connection, place, f, &counts, count),
     }
 }

@@ -7,7 +7,7 @@ ghost use Rattle.connector.specs.Record.{SoundConnector};
 ghost use Rattle.steps.specs.Step.{set_mode, get_mode, get_contact, also_told, stops, lamp_reply, of_lamp, set_lamp, get_lamp, Makes, step_of};
 
 use crate::answers::{fails, says};
-use connector::{Answer, Change, Connector, Contact, Owner, Sending, Stepped};
+use connector::{Answer, Connector, Owner, Stepped};
 use lamp::Lamp;
 use reply::Reply;
 use request::mode::Mode;
@@ -17,8 +17,7 @@ use request::{Ask, Place};
 fn set_mode(c: Connector, place: Place, mode: Mode) -> Stepped
     ensures { result ≡ set_mode c place mode }
 {
-    let sending = c.sending;
-    if connector::records::is_running(sending) {
+    if connector::records::is_running(c.sending) {
         return fails(29, place);
     }
     Stepped {
@@ -26,7 +25,7 @@ fn set_mode(c: Connector, place: Place, mode: Mode) -> Stepped
             reply: Reply::Mode { place, mode },
             also: Owner::Nobody,
         },
-        change: Change::Becomes(connector::records::with_mode(c, mode)),
+        change: Some(connector::records::with_mode(c, mode)),
     }
 }
 
@@ -34,29 +33,30 @@ fn set_mode(c: Connector, place: Place, mode: Mode) -> Stepped
 fn get_mode(c: Connector, place: Place) -> Stepped
     ensures { result ≡ get_mode c place }
 {
-    let mode = c.mode;
-    says(Reply::Mode { place, mode })
+    says(Reply::Mode {
+        place,
+        mode: c.mode,
+    })
 }
 
 // getstate: 018 where it is not in SENSOR, 028 where the contact is unread.
 fn get_contact(c: Connector, place: Place) -> Stepped
     ensures { result ≡ get_contact c place }
 {
-    let mode = c.mode;
-    if !request::mode::is_sensor(mode) {
+    if !request::mode::is_sensor(c.mode) {
         return fails(18, place);
     }
-    let contact = c.contact;
-    match contact {
-        Contact::Unread => fails(28, place),
-        Contact::Read(value) => says(Reply::State {
-            place,
-            state: value as u64,
-        }),
-    }
+    let Some(value) = c.contact else {
+        return fails(28, place);
+    };
+    says(Reply::State {
+        place,
+        state: u64::from(value),
+    })
 }
 
-// Whom a stopir tells besides the asker: the owner, if another connection.
+// Whom a stopir tells besides the asker: the owner, if another connection. It stays beside the connector's `owner_left`, which has the same
+// body: document 01 says the two rules in two places, and one may change without the other (docs/DECISIONS.md).
 fn also_told(owner: Owner, connection: u8) -> Owner
     ensures { result ≡ also_told owner connection }
 {
@@ -71,17 +71,15 @@ fn also_told(owner: Owner, connection: u8) -> Owner
 fn stop(c: Connector, connection: u8, place: Place) -> Stepped
     ensures { result ≡ stops c connection place }
 {
-    let mode = c.mode;
-    if request::mode::is_silent(mode) {
+    if request::mode::is_silent(c.mode) {
         return fails(13, place);
     }
-    let owner = c.owner;
     Stepped {
         answer: Answer::Reply {
             reply: Reply::Stopped { place },
-            also: also_told(owner, connection),
+            also: also_told(c.owner, connection),
         },
-        change: Change::Becomes(connector::records::with_sending(c, Owner::Nobody, Sending::Idle)),
+        change: Some(connector::records::with_sending(c, Owner::Nobody, None)),
     }
 }
 
@@ -90,12 +88,10 @@ fn lamp_reply(place: Place, lamp: Lamp) -> Reply
     requires { SoundLamp lamp }
     ensures { result ≡ lamp_reply place lamp }
 {
-    let level = lamp.percent();
-    let target = lamp.target as u64;
     Reply::Lamp {
         place,
-        level,
-        target,
+        level: lamp.percent(),
+        target: u64::from(lamp.target),
     }
 }
 
@@ -103,8 +99,7 @@ fn lamp_reply(place: Place, lamp: Lamp) -> Reply
 fn of_lamp(c: Connector, place: Place, more: bool, otherwise: Stepped) -> Stepped
     ensures { result ≡ of_lamp c place more otherwise }
 {
-    let mode = c.mode;
-    if !request::mode::is_lighting(mode) {
+    if !request::mode::is_lighting(c.mode) {
         return fails(23, place);
     }
     if more {
@@ -118,14 +113,13 @@ fn set_lamp(c: Connector, place: Place, target: u8, ramp: u8, more: bool) -> Ste
     requires { SoundConnector c × (target ≤ 100) × (ramp ≤ 10) }
     ensures { result ≡ set_lamp c place target ramp more }
 {
-    let before = c.lamp;
-    let lamp = before.turned(target, ramp);
+    let lamp = c.lamp.turned(target, ramp);
     let stepped = Stepped {
         answer: Answer::Reply {
             reply: lamp_reply(place, lamp),
             also: Owner::Nobody,
         },
-        change: Change::Becomes(connector::records::with_lamp(c, lamp)),
+        change: Some(connector::records::with_lamp(c, lamp)),
     };
     of_lamp(c, place, more, stepped)
 }
@@ -135,8 +129,7 @@ fn get_lamp(c: Connector, place: Place, more: bool) -> Stepped
     requires { SoundConnector c }
     ensures { result ≡ get_lamp c place more }
 {
-    let lamp = c.lamp;
-    of_lamp(c, place, more, says(lamp_reply(place, lamp)))
+    of_lamp(c, place, more, says(lamp_reply(place, c.lamp)))
 }
 
 // What a connection asks of a connector at a place by a line; `kept` is the connector's own array.

@@ -10,7 +10,7 @@ use Rattle.laws.specs.Lists.{all}
 use Rattle.laws.proofs.Choice.{and_left}
 use Rattle.laws.proofs.Lists.{leading_all, stands_at, stands_below, stands_behind}
 use Rattle.text.specs.declared.number.Number.TheVariants.{Value}
-use Rattle.text.specs.declared.field.Field.TheVariants.{Good}
+use Rattle.std.proofs.Common.{Some}
 use Rattle.words.specs.Digits.{is_digit, worth}
 use Rattle.text.specs.Number.{run, number_of, number_at}
 use Rattle.text.specs.Field.{ends_field, after_comma, field_within}
@@ -61,7 +61,7 @@ module _ (s : List ℕ) (at n : ℕ) (rest : List ℕ) (e : drop at s ≡ decima
   pub field_behind : drop (at + length (decimal n) + 1) s ≡ rest
   field_behind = stands_behind s (at + length (decimal n)) (44 ∷ []) rest comma_behind
 
-  pub field_good : (least most : ℕ) → least ≤ n → n ≤ most → n < 1000000 → field_within least most s at ≡ Good n (at + length (decimal n))
+  pub field_good : (least most : ℕ) → least ≤ n → n ≤ most → n < 1000000 → field_within least most s at ≡ Some (n, at + length (decimal n))
   unfolding field_within
   field_good least most l m h =
       rw (number_behind s at n (44 ∷ rest) e h refl, field_ends, le-ltb n least l, le-ltb most n m)

@@ -1,29 +1,28 @@
--- Laws of words: the loop that compares one with a field.
-use Prim.Native.Nat.{ℕ, ◌+◌, ◌≤◌, ◌<◌}
-use mathlib.Core.Path.{◌≡◌}
-use mathlib.Core.List.{List}
-use mathlib.Core.Bool.{false}
-use borrow.Author.Tests.{eq-eqb, ne_eqb, leb-true, leb-false}
-use lib.Dec.{leb}
-use lib.ListN.{length, drop, get_or, drop_of_length-le}
+-- Laws of words: what a comparison of one with a field finds.
+use Prim.Native.Nat.{ℕ, suc, ◌≤◌, ◌<◌}
+use mathlib.Core.Path.{◌≡◌, refl, sym}
+use native.Mathlib.Omega.{arith}
+use borrow.Author.Tests.{eqb-true, eqb-false, eq-eqb, ne_eqb, lt-leb}
+use mathlib.Core.List.{List, [], ◌∷◌}
+use mathlib.Core.Bool.{false, ◌&&◌}
+use lib.Dec.{eqb, leb-suc-suc}
+use lib.ListN.{length, drop, drop_of_length-le}
+use Rattle.std.specs.Prelude.{nat_eq}
+use Rattle.std.specs.List.{starts_with}
 use Rattle.laws.proofs.Choice.{by_test}
 use Rattle.laws.proofs.Lists.{drop_next}
 use Rattle.text.specs.Field.{field_is, ends_field}
 
-module _ (w s : List ℕ) (j i : ℕ) where
-  pub word_same : j < length w → i < length s → get_or s i 0 ≡ get_or w j 0
-      → field_is (drop j w) (drop i s) ≡ field_is (drop (j + 1) w) (drop (i + 1) s)
-  word_same hj hi e = rw (drop_next w j 0 hj, drop_next s i 0 hi, eq-eqb (get_or s i 0) (get_or w j 0) e)
+-- a text that begins with the word, and nothing more of a field
+pub word_is : (w r : List ℕ) → field_is w r ≡ (starts_with nat_eq r w && ends_field r (length w))
+unfolding ends_field
+word_is [] [] = refl
+word_is [] (b ∷ r) = rw (lt-leb (suc (length r)) 0 (omega arith))
+word_is (a ∷ w) [] = refl
+word_is (a ∷ w) (b ∷ r) =
+    by_test (eqb b a)
+    (λ e. rw (e, eq-eqb a b (sym (eqb-true b a e)), leb-suc-suc) (word_is w r))
+    (λ e. rw (e, ne_eqb a b (λ alike. eqb-false b a e (sym alike))))
 
-  pub word_other : j < length w → i < length s → (get_or s i 0 ≡ get_or w j 0 → ⊥) → field_is (drop j w) (drop i s) ≡ false
-  word_other hj hi e = rw (drop_next w j 0 hj, drop_next s i 0 hi, ne_eqb (get_or s i 0) (get_or w j 0) e)
-
-  pub word_short : j < length w → length s ≤ i → field_is (drop j w) (drop i s) ≡ false
-  word_short hj hi = rw (drop_next w j 0 hj, drop_of_length-le s hi)
-
-  pub word_end : length w ≤ j → field_is (drop j w) (drop i s) ≡ ends_field s i
-  unfolding ends_field
-  word_end hj =
-      by_test (leb (length s) i)
-      (λ e. rw (e, drop_of_length-le w hj, drop_of_length-le s (leb-true (length s) i e)))
-      (λ e. rw (e, drop_of_length-le w hj, drop_next s i 0 (leb-false (length s) i e)))
+pub word_short : (w s : List ℕ) (j i : ℕ) → j < length w → length s ≤ i → field_is (drop j w) (drop i s) ≡ false
+word_short w s j i hj hi = rw (drop_next w j 0 hj, drop_of_length-le s hi)

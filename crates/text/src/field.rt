@@ -4,31 +4,30 @@ ghost use Rattle.text.specs.Field.{ends_field, after_comma, field_is, field_with
 
 use crate::number::Number;
 
-// A field that is a number within limits and the place where it ends, or none.
-#[derive(Clone, Copy)]
-pub enum Field {
-    Bad,
-    Good(u64, usize),
-}
-
 // The byte at a place, 0 behind the end.
 pub fn byte_at(s: &[u8], at: usize) -> u8
     ensures { result ≡ get_or s.now at 0 }
 {
-    if at < s.len() { s[at] } else { 0 }
+    s.get(at).copied().unwrap_or(0)
+}
+
+// What stands from a place on, nothing behind the end.
+pub(crate) fn onward(s: &[u8], at: usize) -> &[u8]
+    ensures { result.now ≡ drop at s.now }
+{
+    s.get(at..).unwrap_or(&[])
 }
 
 // Whether a field ends at a place: a comma stands there, or nothing more.
+#[tactic(auto, unfolding(crate::specs::Field::ends_field))]
 pub fn ends_field(s: &[u8], at: usize) -> bool
     ensures { result ≡ ends_field s.now at }
 {
-    if s.len() <= at {
-        return true;
-    }
-    s[at] == b','
+    matches!(s.get(at), None | Some(b','))
 }
 
 // Where the field begins behind one that ends at a place.
+#[tactic(auto, unfolding(crate::specs::Field::after_comma))]
 pub fn after_comma(s: &[u8], at: usize) -> usize
     ensures { result ≡ after_comma s.now at }
 {
@@ -36,42 +35,23 @@ pub fn after_comma(s: &[u8], at: usize) -> usize
 }
 
 // Whether the field at a place is the word w.
+#[tactic(auto, using(crate::proofs::Words::word_is))]
 pub fn field_is(s: &[u8], at: usize, w: &[u8]) -> bool
     ensures { result ≡ field_is w.now (drop at s.now) }
 {
-    let mut i = at;
-    let mut j = 0;
-    while j < w.len() {
-        if s.len() <= i {
-            return false;
-        }
-        if s[i] != w[j] {
-            return false;
-        }
-        i += 1;
-        j += 1;
-    }
-    ends_field(s, i)
+    let field = onward(s, at);
+    field.starts_with(w) && ends_field(field, w.len())
 }
 
-// The field at a place, if it is a number from least to most.
-pub fn field_within(s: &[u8], at: usize, least: u64, most: u64) -> Field
+// The field at a place, if it is a number from least to most, and the place where it ends.
+#[tactic(auto, unfolding(crate::specs::Field::field_within))]
+pub fn field_within(s: &[u8], at: usize, least: u64, most: u64) -> Option<(u64, usize)>
     ensures { result ≡ field_within least most s.now at }
 {
     match crate::number::number_at(s, at) {
-        Number::Missing => Field::Bad,
-        Number::TooLong(_) => Field::Bad,
-        Number::Value(value, end) => {
-            if !ends_field(s, end) {
-                return Field::Bad;
-            }
-            if value < least {
-                return Field::Bad;
-            }
-            if most < value {
-                return Field::Bad;
-            }
-            Field::Good(value, end)
+        Number::Value(value, end) if ends_field(s, end) && (least..=most).contains(&value) => {
+            Some((value, end))
         }
+        _ => None,
     }
 }

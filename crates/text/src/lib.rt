@@ -3,4 +3,5 @@
 
 pub mod field;
 pub mod number;
+pub mod out;
 pub mod write;

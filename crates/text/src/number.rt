@@ -19,19 +19,17 @@ impl Number {
 pub fn is_digit(b: u8) -> bool
     ensures { result ≡ is_digit b }
 {
-    if b < b'0' {
-        return false;
-    }
-    b <= b'9'
+    b.is_ascii_digit()
 }
 
 // The number after one digit more, behind so many; behind six it stays, for the run is too long.
+#[tactic(auto, unfolding(crate::specs::Number::grown))]
 fn grown(value: u64, digits: usize, digit: u8) -> u64
     requires { (value < 1000000) × (48 ≤ digit) × (digit ≤ 57) }
     ensures { result ≡ grown value digits digit }
 {
     if digits < Number::MOST_DIGITS {
-        value * 10 + ((digit - b'0') as u64)
+        value * 10 + u64::from(digit - b'0')
     } else {
         value
     }
@@ -41,30 +39,25 @@ fn grown(value: u64, digits: usize, digit: u8) -> u64
 fn found(value: u64, digits: usize, next: usize) -> Number
     ensures { result ≡ found_number value digits next }
 {
-    if digits == 0 {
-        return Number::Missing;
+    match digits {
+        0 => Number::Missing,
+        1..=Number::MOST_DIGITS => Number::Value(value, next),
+        _ => Number::TooLong(next),
     }
-    if Number::MOST_DIGITS < digits {
-        return Number::TooLong(next);
-    }
-    Number::Value(value, next)
 }
 
 // The number at a place.
 pub fn number_at(s: &[u8], at: usize) -> Number
     ensures { result ≡ number_at s.now at }
 {
-    let mut value: u64 = 0;
-    let mut digits: usize = 0;
-    let mut i = at;
-    while i < s.len() {
-        let b = s[i];
-        if !is_digit(b) {
-            return found(value, digits, i);
+    let mut value = 0;
+    let mut digits = 0;
+    for b in crate::field::onward(s, at) {
+        if !is_digit(*b) {
+            break;
         }
-        value = grown(value, digits, b);
+        value = grown(value, digits, *b);
         digits += 1;
-        i += 1;
     }
-    found(value, digits, i)
+    found(value, digits, at + digits)
 }

@@ -8,14 +8,9 @@ pub fn put_word(buf: &mut [u8], at: usize, w: &[u8]) -> usize
     requires { at + length w.now ≤ length buf.old }
     ensures { Put buf.old at w.now buf.new result }
 {
-    let mut o = at;
-    let mut j = 0;
-    while j < w.len() {
-        buf[o] = w[j];
-        o += 1;
-        j += 1;
-    }
-    o
+    let end = at + w.len();
+    buf[at..end].copy_from_slice(w);
+    end
 }
 
 // A number, without leading zeros, digit by digit.

@@ -8,7 +8,6 @@ use hub::{Answer, Hub};
 use pace::Micros;
 use request::{Place, Request};
 use writer::Form;
-use writer::sendir::Written;
 
 mod carriers;
 mod fill;
@@ -151,11 +150,11 @@ fn written_vector(rt: &impl Print, form: Form, label: &[u8], counts: &[u64], exp
     say::text(rt, expected);
     say::text(rt, b", got ");
     match writer::sendir::write_sendir(&mut buf, form, command, counts) {
-        Written::Refused(number) => {
+        Err(number) => {
             say::number(rt, number);
             say::verdict(rt, false);
         }
-        Written::Line(size) => {
+        Ok(size) => {
             say::text(rt, front(&buf, size));
             say::verdict(rt, check::same(front(&buf, size), expected));
         }

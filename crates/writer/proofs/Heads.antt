@@ -5,7 +5,9 @@ use mathlib.Core.Bool.{true}
 use mathlib.Core.List.{List, [], ◌∷◌, ◌++◌, append_assoc}
 use native.Mathlib.Omega.{arith}
 use borrow.Author.Tests.{lt-ltb, le-ltb, lt-leb, ne_eqb}
+use Rattle.std.specs.Prelude.{Some}
 use lib.ListN.{length, drop}
+use Rattle.std.proofs.Common.{Ok}
 use Rattle.laws.specs.Bytes.{bytes}
 use Rattle.laws.specs.Lists.{all}
 use Rattle.laws.proofs.Lists.{stands_at, stands_below, stands_behind}
@@ -21,14 +23,11 @@ use Rattle.request.specs.declared.Ask.TheVariants.{Send}
 use Rattle.request.specs.declared.Request.TheVariants.{Connector}
 use Rattle.request.specs.declared.name.Name.TheVariants.{SendIr}
 use Rattle.request.specs.declared.name.Word.TheVariants.{Named}
-use Rattle.request.specs.declared.name.WordRead.TheVariants.{Known}
-use Rattle.request.specs.declared.address.Address.TheVariants.{At}
 use Rattle.request.specs.Place.{place_of}
 use Rattle.request.specs.Name.{word_at}
 use Rattle.request.specs.Address.{part_at, port_at, address_at, address_fault}
 use Rattle.request.specs.Request.{is_printable, addressed, read_request}
 use Rattle.request.specs.Accepted.{ConnectorAt}
-use Rattle.command.specs.declared.fields.FieldsRead.TheVariants.{Good}
 use Rattle.command.specs.Fields.{capped, fields_at, FieldsWithin}
 use Rattle.writer.specs.Sendir.{sendir_head}
 use Rattle.writer.proofs.Limits.{small}
@@ -54,7 +53,7 @@ capped_same n h = rw (le-ltb 20 n h)
 
 pub record FieldsBack (s : List ℕ) (at : ℕ) (f : Fields) (code : List ℕ) : Type 0 where
   pub end : ℕ
-  pub fields : fields_at s at ≡ Good f end
+  pub fields : fields_at s at ≡ Ok (f, end)
   pub behind : drop end s ≡ code
 
 fields_back : {f : Fields} (s : List ℕ) (at : ℕ) (code : List ℕ) → FieldsWithin f → drop at s ≡ listed (fields_in f) code → FieldsBack s at f code
@@ -90,7 +89,7 @@ unfolding decimal
 one = refl
 
 address_back : (s : List ℕ) (port : ℕ) (rest : List ℕ) → port < 1000000 → drop 7 s ≡ 49 ∷ 58 ∷ (decimal port ++ (44 ∷ rest))
-    → address_at s 7 ≡ At (place_of 1 port) (9 + length (decimal port))
+    → address_at s 7 ≡ Some (place_of 1 port, 9 + length (decimal port))
 unfolding address_at port_at part_at
 address_back s port rest h e =
     let m : number_at s 7 ≡ Value 1 8 =
@@ -135,7 +134,7 @@ pub head_back : {place : Place} {f : Fields} (s code : List ℕ) → ConnectorAt
 unfolding read_request word_at
 head_back {place} {f} s code a l few fine e =
     let port = place.port in
-    let named : word_at s ≡ Known (Named SendIr) = rw e in
+    let named : word_at s ≡ Some (Named SendIr) = rw e in
     let behind : drop 9 s ≡ listed (port ∷ fields_in f) code = rw e in
     record {
       start = 9 + length (decimal port) + 1;

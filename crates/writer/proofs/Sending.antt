@@ -6,6 +6,7 @@ use native.Mathlib.Omega.{arith}
 use mathlib.Core.List.{List}
 use borrow.Author.Tests.{lt-ltb, le-ltb}
 use lib.ListN.{length}
+use Rattle.std.proofs.Common.{Ok, Err}
 use Rattle.laws.specs.Lists.{numbers}
 use Rattle.laws.specs.Put.{Put}
 use Rattle.laws.proofs.Put.{over_nothing}
@@ -15,12 +16,10 @@ use Rattle.words.specs.Pairs.{pairs_of, counts_in}
 use Rattle.words.proofs.Standing.{pairs_back}
 use Rattle.decoder.specs.Follows.{pairs_at}
 use Rattle.command.specs.declared.given.Command.{Command}
-use Rattle.command.specs.declared.read.CommandRead.TheVariants.{Fault, Sent}
 use Rattle.command.specs.Read.{found_in, CommandInto}
 use Rattle.command.specs.Given.{command_given}
 use Rattle.command.proofs.Commands.{fault_read, sent_read}
 use Rattle.writer.specs.declared.Form.{Form}
-use Rattle.writer.specs.declared.sendir.Written.TheVariants.{Refused, Line}
 use Rattle.writer.specs.Sendir.{Small, refused, outcome, sendir_line, Wrote}
 use Rattle.writer.proofs.Limits.{Taken, given_taken, small}
 
@@ -34,22 +33,22 @@ pairs_standing memory i (suc n) =
     rw (two, off, pairs_standing memory (suc i) n, on)
 
 module _ {before : List ℕ} {form : Form} {c : Command} {given : List ℕ} where
-  nothing : {number : ℕ} → outcome (length before) form c given ≡ refused number → Wrote before form c given before (Refused number)
+  nothing : {number : ℕ} → outcome (length before) form c given ≡ refused number → Wrote before form c given before (Err number)
   nothing e = record { answer = rw e; laid = rw e (sym (over_nothing before 0)) }
 
-  pub no_room : length before < 4096 → Wrote before form c given before (Refused 105)
+  pub no_room : length before < 4096 → Wrote before form c given before (Err 105)
   unfolding outcome
   no_room h = nothing (rw (lt-ltb (length before) 4096 h))
 
 module _ (c : Command) (given : List ℕ) {counts counts' : List ℕ} where
   -- a command that is refused
-  pub not_taken : {before : List ℕ} {form : Form} {number : ℕ} → 4096 ≤ length before → CommandInto (command_given c given) counts (Fault number) counts'
-      → Wrote before form c given before (Refused number)
+  pub not_taken : {before : List ℕ} {form : Form} {number : ℕ} → 4096 ≤ length before → CommandInto (command_given c given) counts (Err number) counts'
+      → Wrote before form c given before (Err number)
   unfolding outcome
   not_taken {before} room k = nothing (rw (le-ltb (length before) 4096 room, fault_read (command_given c given) k.result))
 
   -- one that is taken
-  module _ {f : Fields} {n : ℕ} (k : CommandInto (command_given c given) counts (Sent f n) counts') where
+  module _ {f : Fields} {n : ℕ} (k : CommandInto (command_given c given) counts (Ok (f, n)) counts') where
     abbrev ps : List Pair
     ps = found_in (command_given c given)
 
@@ -68,14 +67,14 @@ module _ (c : Command) (given : List ℕ) {counts counts' : List ℕ} where
     standing = pairs_standing counts' 0 n ∙ rw ((sent_read (command_given c given) k.result).1, k.front, pairs_back ps)
 
     pub whole_line : {before after : List ℕ} {form : Form} {next : ℕ} → 4096 ≤ length before
-        → Put before 0 (sendir_line form c.place f (pairs_at counts' 0 n)) after next → Wrote before form c given after (Line next)
+        → Put before 0 (sendir_line form c.place f (pairs_at counts' 0 n)) after next → Wrote before form c given after (Ok next)
     unfolding outcome
     whole_line {before} {form = form} room q =
         let p = rw standing at q in
         let is = (sent_read (command_given c given) k.result).0 in
         record {
           answer =
-              ap Line (p.place ∙ zero-add (length (sendir_line form c.place f ps)))
+              ap Ok (p.place ∙ zero-add (length (sendir_line form c.place f ps)))
               ∙ rw (le-ltb (length before) 4096 room, is);
           laid = rw (le-ltb (length before) 4096 room, is) p.laid;
         }

@@ -1,6 +1,6 @@
 -- A sendir line without CR: "105 a code writer's buffer under 4,096 bytes; 106, after 105", "Bytes of a lent buffer after
 -- what is written keep their contents."
-use Rattle.std.specs.Prelude.{ℕ, ◌<◌, ◌≡◌, cond, List, [], ◌++◌, length, ltb}
+use Rattle.std.specs.Prelude.{ℕ, ◌<◌, ◌≡◌, cond, List, [], ◌++◌, length, Result, Ok, Err, ltb}
 use Rattle.laws.specs.Bytes.{bytes}
 use Rattle.laws.specs.Put.{over}
 use Rattle.words.specs.Decimal.{decimal}
@@ -11,8 +11,6 @@ use Rattle.command.specs.declared.given.Command.{Command}
 use Rattle.command.specs.Read.{CommandReading, sent, faulty}
 use Rattle.command.specs.Given.{command_given}
 use Rattle.writer.specs.declared.Form.{Form}
-use Rattle.writer.specs.declared.sendir.Written.{Written}
-use Rattle.writer.specs.declared.sendir.Written.TheVariants.{Refused, Line}
 use Rattle.writer.specs.CodeText.{code_text}
 
 abbrev pub field_text : ℕ → List ℕ
@@ -38,16 +36,16 @@ command_outcome form place (sent f ps) = line (sendir_line form place f ps)
 unfoldable pub outcome : ℕ → Form → Command → List ℕ → Outcome
 outcome room form c given = cond (ltb room 4096) (refused 105) (command_outcome form c.place (command_given c given))
 
-abbrev pub answer_of : Outcome → Written
-answer_of (refused number) = Refused number
-answer_of (line text) = Line (length text)
+abbrev pub answer_of : Outcome → Result ℕ ℕ
+answer_of (refused number) = Err number
+answer_of (line text) = Ok (length text)
 
 -- nothing is written of a refusal
 abbrev pub bytes_of : Outcome → List ℕ
 bytes_of (refused number) = []
 bytes_of (line text) = text
 
-pub record Wrote (before : List ℕ) (form : Form) (c : Command) (given after : List ℕ) (r : Written) : Type 0 where
+pub record Wrote (before : List ℕ) (form : Form) (c : Command) (given after : List ℕ) (r : Result ℕ ℕ) : Type 0 where
   pub answer : r ≡ answer_of (outcome (length before) form c given)
   pub laid : after ≡ over before 0 (bytes_of (outcome (length before) form c given))
 

@@ -61,8 +61,7 @@ pub fn put_code(
     let mut letters = Letters::none();
     let mut o = at;
     let mut after = After::Nothing;
-    let mut j: usize = 0;
-    while j < count {
+    for j in 0..count {
         let first = 2 * j;
         let p = Pair {
             on: counts[first],
@@ -73,12 +72,10 @@ pub fn put_code(
             buf[o] = b'A' + (i % 15) as u8;
             o += 1;
             after = After::Lettering;
-            j += 1;
         } else {
             o = put_spelled(buf, o, after, p.on, p.off);
             letters = code::letters::learn(letters, p);
             after = After::Spelling;
-            j += 1;
         }
     }
     o

@@ -6,20 +6,10 @@ ghost use Rattle.writer.specs.Sendir.{Small, field_text, sendir_head, Wrote};
 use crate::Form;
 use code::Code;
 use command::given::Command;
-use command::read::CommandRead;
 use words::Fields;
 
-// The length of the line that was written, or a refusal.
-#[derive(Clone, Copy)]
-pub enum Written {
-    Refused(u64),
-    Line(usize),
-}
-
-impl Written {
-    // The least room that the writer takes.
-    pub const ROOM: usize = 4096;
-}
+// The least room that the writer takes.
+pub const ROOM: usize = 4096;
 
 // A number and its comma.
 fn put_field(buf: &mut [u8], at: usize, n: u64) -> usize
@@ -43,20 +33,21 @@ fn put_head(buf: &mut [u8], port: u64, f: Fields) -> usize
     put_field(buf, e, f.offset as u64)
 }
 
-// The line of a command in either form, or 105, then 106, and nothing written.
-pub fn write_sendir(buf: &mut [u8], form: Form, command: Command, given: &[u64]) -> Written
+// The line of a command in either form: its length, or 105, then 106, and nothing written.
+pub fn write_sendir(
+    buf: &mut [u8],
+    form: Form,
+    command: Command,
+    given: &[u64],
+) -> Result<usize, u64>
     ensures { Wrote buf.old form command given.now buf.new result }
 {
-    if buf.len() < Written::ROOM {
-        return Written::Refused(105);
+    if buf.len() < ROOM {
+        return Err(105);
     }
     let mut counts = [0u16; Code::MOST_COUNTS];
-    match command::given::command_given(command, given, &mut counts) {
-        CommandRead::Fault(number) => Written::Refused(number),
-        CommandRead::Sent(f, count) => {
-            let place = command.place;
-            let o = put_head(buf, place.port, f);
-            Written::Line(crate::codetext::put_code(buf, o, form, count, &counts))
-        }
-    }
+    let (f, count) = command::given::command_given(command, given, &mut counts)?;
+    let place = command.place;
+    let o = put_head(buf, place.port, f);
+    Ok(crate::codetext::put_code(buf, o, form, count, &counts))
 }

@@ -1,8 +1,11 @@
-use mathlib.Core.Path.{refl, sym, ◌∙◌}
+use mathlib.Core.Path.{◌∙◌}
+use Rattle.std.proofs.Common.{rules, tests}
 use borrow.Author.Tests.{lt-ltb, le-ltb, eq-eqb, ne_eqb}
-use Rattle.laws.proofs.Lists.{all_more, all_stop, all_done}
+use Rattle.std.proofs.lemmas.Iterator.{YieldsList-from_slice}
+use Rattle.std.proofs.lemmas.Iterator.Search.{all_from_yields_List}
 use Rattle.code.specs.Limits.{legal}
 use Rattle.command.specs.Given.{counts_within}
+use Rattle.command.proofs.Giving.{list_all_law}
 use Rattle.command.proofs.given.counts_within.Goals as goal
 
 pub returns-then-count-lt2 : goal.returns-then-count-lt2
@@ -17,19 +20,9 @@ pub returns-then-count-ne0 : goal.returns-then-count-ne0
 unfolding counts_within
 returns-then-count-ne0 c = rw (le-ltb _ _ c.if-count-lt2.false, le-ltb _ _ c.if-count-gt-MOST_COUNTS.false, ne_eqb _ _ c.if-count-ne0.true)
 
-pub loop-i-init : goal.loop-i-init
-loop-i-init c = refl
-
-pub returns-then-not-is_legal : goal.returns-then-not-is_legal
-unfolding counts_within
-returns-then-not-is_legal c =
-    let a = c.args in
-    let stopped = all_stop (legal a.freq) a.given.now c.loop-i.i 0 c.loop-i-test.true (sym c.is_legal.ensures ∙ c.if-not-is_legal.true) in
-    rw (le-ltb _ _ c.if-count-lt2.false, le-ltb _ _ c.if-count-gt-MOST_COUNTS.false, eq-eqb _ _ c.if-count-ne0.false, ← c.loop-i.invariant, stopped)
-
-pub loop-i-preserved : goal.loop-i-preserved
-loop-i-preserved c = sym (all_more (legal _) _ _ 0 c.loop-i-test.true (sym c.is_legal.ensures ∙ c.if-not-is_legal.false)) ∙ c.loop-i.invariant
-
 pub returns : goal.returns
 unfolding counts_within
-returns c = rw (le-ltb _ _ c.if-count-lt2.false, le-ltb _ _ c.if-count-gt-MOST_COUNTS.false, eq-eqb _ _ c.if-count-ne0.false, ← c.loop-i.invariant) (sym (all_done (legal _) _ _ 0 c.loop-i-test.false))
+returns c =
+    let a = all_from_yields_List (legal c.args.freq) _ _ c.all.result c.all.ensures.ran (YieldsList-from_slice c.args.given.now cc) (λ x b q k. search (rules, tests)) in
+    rw (le-ltb _ _ c.if-count-lt2.false, le-ltb _ _ c.if-count-gt-MOST_COUNTS.false, eq-eqb _ _ c.if-count-ne0.false)
+    (a ∙ list_all_law (legal c.args.freq) c.args.given.now)

@@ -1,15 +1,17 @@
-use mathlib.Core.Path.{sym, ◌∙◌}
 use native.Mathlib.Omega.{arith}
-use Rattle.composer.proofs.Composing.{neither_refused, nothing_composed, composed}
+use Rattle.std.proofs.lemmas.Result.{err_from_is_err_and}
+use Rattle.composer.proofs.Composing.{refusal_judged, nothing_composed, composed, none_refused}
 use Rattle.composer.proofs.compose.compose.Goals as goal
 
-pub returns-then-number-ne0 : goal.returns-then-number-ne0
-returns-then-number-ne0 c = nothing_composed _ c.wish_fault.ensures c.refusal-number.ensures c.if-number-ne0.true
+pub returns-in_err-and : goal.returns-in_err-and
+returns-in_err-and c =
+    let p = err_from_is_err_and c.from_residual.result c.from_residual.ensures.1 in
+    rw (p.1, p.2) (nothing_composed _ _ (refusal_judged _ _ c.wish_fault.ensures c.room_fault.ensures c.and.ensures) c.in_err-and.was)
 
 pub put_wish-requires : goal.put_wish-requires
 put_wish-requires c =
-    omega (arith, (neither_refused _ _ (sym c.refusal-number.ensures ∙ c.if-number-ne0.false)).1)
+    omega (arith, (none_refused _ _ c.wish_fault.ensures c.room_fault.ensures c.and.ensures c.in_ok-and.was).1)
 
 pub returns : goal.returns
 returns c =
-    composed _ c.wish_fault.ensures c.refusal-number.ensures c.if-number-ne0.false c.put_wish.ensures
+    composed _ _ (refusal_judged _ _ c.wish_fault.ensures c.room_fault.ensures c.and.ensures) c.in_ok-and.was c.put_wish.ensures

@@ -1,29 +1,30 @@
-use mathlib.Core.Path.{sym, ◌∙◌}
+use Rattle.std.proofs.lemmas.Result.{err_from_is_err_and}
 use Rattle.laws.proofs.Choice.{clash}
 use Rattle.laws.proofs.Put.{then}
-use Rattle.composer.proofs.Composing.{neither_refused, nothing_composed, composed}
+use Rattle.composer.proofs.Composing.{refusal_judged, none_refused, nothing_composed, composed}
 use Rattle.composer.proofs.Sending.{sendir_written, written_put, cr_fits}
 use Rattle.composer.proofs.compose.compose_sendir.Goals as goal
 
-pub returns-then-number-ne0 : goal.returns-then-number-ne0
-returns-then-number-ne0 c = nothing_composed _ c.sendir_fault.ensures c.refusal-number.ensures c.if-number-ne0.true
+pub returns-in_err-and : goal.returns-in_err-and
+returns-in_err-and c =
+    let p = err_from_is_err_and c.from_residual.result c.from_residual.ensures.1 in
+    rw (p.1, p.2) (nothing_composed _ _ (refusal_judged _ _ c.sendir_fault.ensures c.room_fault.ensures c.and.ensures) c.in_err-and.was)
 
 pub put_word-requires : goal.put_word-requires
 put_word-requires c =
-    let none = neither_refused _ _ (sym c.refusal-number.ensures ∙ c.if-number-ne0.false) in
-    let w = sendir_written (sym c.sendir_fault.ensures ∙ none.0) none.1 c.write_sendir.ensures in
-    cr_fits w c.in-Line.is none.1
+    let none = none_refused _ _ c.sendir_fault.ensures c.room_fault.ensures c.and.ensures c.in_ok-and.was in
+    let w = sendir_written none.0 none.1 c.write_sendir.ensures in
+    cr_fits w c.in_ok-size.was none.1
 
-pub returns-in-Refused : goal.returns-in-Refused
-returns-in-Refused c =
-    let none = neither_refused _ _ (sym c.refusal-number.ensures ∙ c.if-number-ne0.false) in
-    let w = sendir_written (sym c.sendir_fault.ensures ∙ none.0) none.1 c.write_sendir.ensures in
-    clash (cc (w.answer, c.in-Refused.is))
+pub returns-in_err-size : goal.returns-in_err-size
+returns-in_err-size c =
+    let none = none_refused _ _ c.sendir_fault.ensures c.room_fault.ensures c.and.ensures c.in_ok-and.was in
+    let w = sendir_written none.0 none.1 c.write_sendir.ensures in
+    clash (cc (w.answer, c.in_err-size.was))
 
-pub returns-in-Line : goal.returns-in-Line
-returns-in-Line c =
-    let fault = c.sendir_fault.ensures in
-    let none = neither_refused _ _ (sym c.refusal-number.ensures ∙ c.if-number-ne0.false) in
-    let w = sendir_written (sym fault ∙ none.0) none.1 c.write_sendir.ensures in
-    composed _ fault c.refusal-number.ensures c.if-number-ne0.false
-    (then (written_put w c.in-Line.is none.1) c.put_word.ensures)
+pub returns : goal.returns
+returns c =
+    let none = none_refused _ _ c.sendir_fault.ensures c.room_fault.ensures c.and.ensures c.in_ok-and.was in
+    let w = sendir_written none.0 none.1 c.write_sendir.ensures in
+    composed _ _ (refusal_judged _ _ c.sendir_fault.ensures c.room_fault.ensures c.and.ensures) c.in_ok-and.was
+    (then (written_put w c.in_ok-size.was none.1) c.put_word.ensures)

@@ -1,31 +1,46 @@
-use mathlib.Core.Path.{sym, ◌∙◌}
-use borrow.Author.Tests.{eq-eqb}
+use Rattle.std.proofs.Common.{◌≡◌, sym, ◌∙◌, rules, tests, length, take}
+use borrow.Author.Tests.{lt-ltb, le-ltb, eq-eqb, ne_eqb, eqb-false}
+use Rattle.std.proofs.lemmas.Iterator.{YieldsList-from_slice, YieldsList-from_take}
+use Rattle.std.proofs.lemmas.Iterator.Search.{all_from_yields_List}
+use Rattle.laws.specs.Lists.{all}
+use Rattle.command.proofs.Giving.{list_all_law}
+use Rattle.code.specs.Limits.{legal, most_counts}
 use Rattle.composer.specs.Fault.{counts_fault}
-use Rattle.composer.proofs.Faults.{none_passed, too_many, one_more, illegal, paired, last_alone}
 use Rattle.composer.proofs.fault.counts_fault.Goals as goal
+use Rattle.composer.proofs.fault.counts_fault.Goals.{After-all-legal}
 
-pub returns-then-counts-eq0 : goal.returns-then-counts-eq0
+some : (c : After-all-legal) → length c.args.counts.now ≡ 0 → ⊥
+some c = eqb-false _ 0 (sym c.is_empty.ensures ∙ c.if-is_empty.false)
+
+legals : (c : After-all-legal) → all (legal c.args.freq) (take most_counts c.args.counts.now) ≡ c.all-legal.result
+legals c =
+    let a = all_from_yields_List (legal c.args.freq) _ _ c.all-legal.result c.all-legal.ensures.ran (YieldsList-from_take 520 (YieldsList-from_slice c.args.counts.now cc) cc) (λ x b q k. search (rules, tests)) in
+    sym (a ∙ list_all_law (legal c.args.freq) (take most_counts c.args.counts.now))
+
+pub returns-then-is_empty : goal.returns-then-is_empty
 unfolding counts_fault
-returns-then-counts-eq0 c = rw (eq-eqb _ _ c.if-counts-eq0.true)
+returns-then-is_empty c = rw (sym c.is_empty.ensures ∙ c.if-is_empty.true)
 
-pub loop-i-init : goal.loop-i-init
-loop-i-init c = none_passed _ _
+pub returns-then-not-legal : goal.returns-then-not-legal
+unfolding counts_fault
+returns-then-not-legal c =
+    let a = (goal.at.returns-then-not-legal c).After-all-legal in
+    rw (ne_eqb _ 0 (some a), legals a, c.if-not-legal.true)
 
-pub returns-then-i-eq-MOST_COUNTS : goal.returns-then-i-eq-MOST_COUNTS
-returns-then-i-eq-MOST_COUNTS c = too_many c.loop-i.invariant c.loop-i-test.true c.if-i-eq-MOST_COUNTS.true
+pub returns-then-counts-gt-MOST_COUNTS : goal.returns-then-counts-gt-MOST_COUNTS
+unfolding counts_fault
+returns-then-counts-gt-MOST_COUNTS c =
+    let a = (goal.at.returns-then-counts-gt-MOST_COUNTS c).After-all-legal in
+    rw (ne_eqb _ 0 (some a), legals a, c.if-not-legal.false, lt-ltb most_counts _ c.if-counts-gt-MOST_COUNTS.true)
 
-pub returns-then-not-is_legal : goal.returns-then-not-is_legal
-returns-then-not-is_legal c =
-    illegal c.loop-i.invariant c.loop-i-test.true c.if-i-eq-MOST_COUNTS.false
-    (sym c.is_legal.ensures ∙ c.if-not-is_legal.true)
-
-pub loop-i-preserved : goal.loop-i-preserved
-loop-i-preserved c =
-    one_more c.loop-i.invariant c.loop-i-test.true c.if-i-eq-MOST_COUNTS.false
-    (sym c.is_legal.ensures ∙ c.if-not-is_legal.false)
-
-pub returns-then-i-eq0 : goal.returns-then-i-eq0
-returns-then-i-eq0 c = paired c.loop-i.invariant c.if-counts-eq0.false c.loop-i-test.false c.if-i-eq0.true
+pub returns-then-counts-ne0 : goal.returns-then-counts-ne0
+unfolding counts_fault
+returns-then-counts-ne0 c =
+    let a = (goal.at.returns-then-counts-ne0 c).After-all-legal in
+    rw (ne_eqb _ 0 (some a), legals a, c.if-not-legal.false, le-ltb most_counts _ c.if-counts-gt-MOST_COUNTS.false, ne_eqb _ 0 c.if-counts-ne0.true)
 
 pub returns : goal.returns
-returns c = last_alone c.loop-i.invariant c.if-counts-eq0.false c.loop-i-test.false c.if-i-eq0.false
+unfolding counts_fault
+returns c =
+    let a = (goal.at.returns c).After-all-legal in
+    rw (ne_eqb _ 0 (some a), legals a, c.if-not-legal.false, le-ltb most_counts _ c.if-counts-gt-MOST_COUNTS.false, eq-eqb _ 0 c.if-counts-ne0.false)

@@ -3,10 +3,11 @@ use mathlib.Core.Path.{◌≡◌, refl}
 use mathlib.Core.Bool.{Bool, true, false, cond, not}
 use native.Mathlib.Omega.{arith}
 use borrow.Author.Tests.{eq-eqb, ne_eqb}
+use Rattle.std.proofs.Common.{Err}
 use Rattle.laws.specs.Checks.{between}
 use Rattle.laws.proofs.Choice.{between_true}
 use Rattle.code.specs.Limits.{most_id, least_freq, most_freq, most_repeat, most_offset}
-use Rattle.composer.specs.Fault.{fields_fault}
+use Rattle.composer.specs.Fault.{judged, fields_fault}
 use Rattle.composer.proofs.Faults.{between_low, between_high}
 use Rattle.composer.proofs.fault.fields_fault.Goals as goal
 
@@ -15,7 +16,7 @@ odd-is-some : (n : ℕ) → (n % 2 ≡ 0 → ⊥) → 1 ≤ n
 odd-is-some n h = omega arith
 
 -- an even offset is refused, however large
-even-out : (t : Bool) → ◌≡◌ {A = ℕ} 7 (cond t 7 7)
+even-out : (t : Bool) → Err 7 ≡ judged (cond t 7 7)
 even-out true = refl
 even-out false = refl
 

@@ -1,38 +1,43 @@
-use borrow.Author.Tests.{le-leb, lt-leb, eq-eqb, ne_eqb}
+use borrow.Author.Tests.{le-leb, lt-leb}
+use Rattle.std.proofs.lemmas.Result.{err_from_is_err_and}
 use Rattle.composer.specs.Fault.{sendir_fault}
+use Rattle.composer.proofs.Faults.{found_first, none_first}
 use Rattle.composer.proofs.fault.sendir_fault.Goals as goal
 
-pub returns-then-place-ne0 : goal.returns-then-place-ne0
+pub returns-in_err-place_fault : goal.returns-in_err-place_fault
 unfolding sendir_fault
-returns-then-place-ne0 c = rw (← c.place_fault-place.ensures, ne_eqb _ 0 c.if-place-ne0.true)
+returns-in_err-place_fault c =
+    let p = err_from_is_err_and c.from_residual.result c.from_residual.ensures.1 in
+    rw (p.1, p.2) (found_first _ c.place_fault.ensures _ c.in_err-place_fault.was)
 
-pub returns-then-field-ne0 : goal.returns-then-field-ne0
+pub returns-in_err-fields_fault : goal.returns-in_err-fields_fault
 unfolding sendir_fault
-returns-then-field-ne0 c =
-    rw (← c.place_fault-place.ensures, eq-eqb _ 0 c.if-place-ne0.false, ← c.fields_fault-field.ensures, ne_eqb _ 0 c.if-field-ne0.true)
+returns-in_err-fields_fault c =
+    let out = c.from_residual-in_err-fields_fault in
+    let p = err_from_is_err_and out.result out.ensures.1 in
+    rw (p.1, p.2, none_first _ c.place_fault.ensures _ c.in_ok-place_fault.was)
+    (found_first _ c.fields_fault.ensures _ c.in_err-fields_fault.was)
 
-pub returns-then-count-ne0 : goal.returns-then-count-ne0
+pub returns-in_err-counts_fault : goal.returns-in_err-counts_fault
 unfolding sendir_fault
-returns-then-count-ne0 c =
+returns-in_err-counts_fault c =
+    let out = c.from_residual-in_err-counts_fault in
+    let p = err_from_is_err_and out.result out.ensures.1 in
     rw (
-      ← c.place_fault-place.ensures,
-      eq-eqb _ 0 c.if-place-ne0.false,
-      ← c.fields_fault-field.ensures,
-      eq-eqb _ 0 c.if-field-ne0.false,
-      ← c.counts_fault-count.ensures,
-      ne_eqb _ 0 c.if-count-ne0.true,
+      p.1,
+      p.2,
+      none_first _ c.place_fault.ensures _ c.in_ok-place_fault.was,
+      none_first _ c.fields_fault.ensures _ c.in_ok-fields_fault.was,
     )
+    (found_first _ c.counts_fault.ensures _ c.in_err-counts_fault.was)
 
 pub returns-then-counts-f : goal.returns-then-counts-f
 unfolding sendir_fault
 returns-then-counts-f c =
     rw (
-      ← c.place_fault-place.ensures,
-      eq-eqb _ 0 c.if-place-ne0.false,
-      ← c.fields_fault-field.ensures,
-      eq-eqb _ 0 c.if-field-ne0.false,
-      ← c.counts_fault-count.ensures,
-      eq-eqb _ 0 c.if-count-ne0.false,
+      none_first _ c.place_fault.ensures _ c.in_ok-place_fault.was,
+      none_first _ c.fields_fault.ensures _ c.in_ok-fields_fault.was,
+      none_first _ c.counts_fault.ensures _ c.in_ok-counts_fault.was,
       le-leb _ _ c.if-counts-f.true,
     )
 
@@ -40,11 +45,8 @@ pub returns : goal.returns
 unfolding sendir_fault
 returns c =
     rw (
-      ← c.place_fault-place.ensures,
-      eq-eqb _ 0 c.if-place-ne0.false,
-      ← c.fields_fault-field.ensures,
-      eq-eqb _ 0 c.if-field-ne0.false,
-      ← c.counts_fault-count.ensures,
-      eq-eqb _ 0 c.if-count-ne0.false,
+      none_first _ c.place_fault.ensures _ c.in_ok-place_fault.was,
+      none_first _ c.fields_fault.ensures _ c.in_ok-fields_fault.was,
+      none_first _ c.counts_fault.ensures _ c.in_ok-counts_fault.was,
       lt-leb _ _ c.if-counts-f.false,
     )

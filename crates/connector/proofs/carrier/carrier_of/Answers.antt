@@ -4,16 +4,16 @@ use lib.ListN.{length}
 use Rattle.words.proofs.Standing.{counts_first}
 use Rattle.connector.proofs.carrier.carrier_of.Goals as goal
 
-pub place-place-requires : goal.place-place-requires
-place-place-requires c = (rw c.in-Running.is at c.requires.0).paced
+pub place-requires : goal.place-requires
+place-requires c = (rw c.in-Some.is at c.requires.0).paced
 
 pub carrier-requires : goal.carrier-requires
 carrier-requires c =
-    let s = rw c.in-Running.is at c.requires.0 in
+    let s = rw c.in-Some.is at c.requires.0 in
     (c.requires.1, s.few)
 
-pub returns-in-Running : goal.returns-in-Running
-returns-in-Running c =
-    let s = rw c.in-Running.is at c.requires.0 in
-    let room : 2 * c.in-Running.run'.count ≤ length c.args.kept.now = omega (arith, s.few, c.requires.1) in
-    rw (c.in-Running.is, c.carrier.ensures, c.place-place.ensures, counts_first _ _ room)
+pub returns : goal.returns
+returns c =
+    let s = rw c.in-Some.is at c.requires.0 in
+    let room : 2 * c.in-Some.run'.count ≤ length c.args.kept.now = omega (arith, s.few, c.requires.1) in
+    rw (c.in-Some.is, c.carrier.ensures, c.place.ensures, counts_first _ _ room)

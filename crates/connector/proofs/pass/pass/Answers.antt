@@ -5,18 +5,20 @@ use Rattle.connector.proofs.pass.pass.Goals as goal
 
 pub passed-requires : goal.passed-requires
 passed-requires c =
-    let s = rw c.in-Running.is at c.requires.0.sends in
-    (s.paced, omega arith, s.freq_high, c.requires.1)
+    let s = rw c.in-Some.is at c.requires.0.sends in
+    (s.paced, omega arith, omega arith, c.requires.1)
 
-pub returns-in-Idle : goal.returns-in-Idle
-returns-in-Idle c =
+pub returns-in_default : goal.returns-in_default
+returns-in_default c =
     let args = c.args in
-    c.lit.ensures ∙ ap (λ s. passing_sending args.c args.place args.wait.0 s) (sym c.in-Idle.is)
+    c.lit.ensures ∙ ap (λ s. passing_sending args.c args.place args.wait.0 s) (sym c.in_default.is)
 
-pub returns-in-Running-passed : goal.returns-in-Running-passed
-returns-in-Running-passed c =
-    rw (c.in-Running.is, ← c.passed.ensures, c.in-Running-passed.is, c.with_sending.ensures)
+pub returns-in-Running : goal.returns-in-Running
+returns-in-Running c =
+    let passed = rw c.from.ensures at c.passed.ensures in
+    rw (c.in-Some.is, ← passed, c.in-Running.is, c.with_sending.ensures)
 
 pub returns-in-Complete : goal.returns-in-Complete
 returns-in-Complete c =
-    rw (c.in-Running.is, ← c.passed.ensures, c.in-Complete.is, c.with_sending-next.ensures)
+    let passed = rw c.from.ensures at c.passed.ensures in
+    rw (c.in-Some.is, ← passed, c.in-Complete.is, c.with_sending-next.ensures, c.from-in-Complete.ensures)

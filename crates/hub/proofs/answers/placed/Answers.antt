@@ -1,7 +1,7 @@
 use Rattle.hub.proofs.answers.placed.Goals as goal
 
-pub returns-in-Nothing : goal.returns-in-Nothing
-returns-in-Nothing c = rw c.in-Nothing.is
+pub returns-in-None : goal.returns-in-None
+returns-in-None c = rw c.in-None.is
 
-pub returns-in-Becomes : goal.returns-in-Becomes
-returns-in-Becomes c = rw c.in-Becomes.is
+pub returns-in-Some : goal.returns-in-Some
+returns-in-Some c = rw c.in-Some.is

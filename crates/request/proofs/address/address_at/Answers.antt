@@ -21,19 +21,14 @@ bounds-s-at c =
     let short = short (goal.at.bounds-s-at c).Else-not-is_short in
     let h = short.room in omega arith
 
-pub overflow_sub-m : goal.overflow_sub-m
-overflow_sub-m c =
-    let m_range = m_range (goal.at.overflow_sub-m c).Else-not-is_short in
+pub overflow_sub-s : goal.overflow_sub-s
+overflow_sub-s c =
+    let m_range = m_range (goal.at.overflow_sub-s c).Else-not-is_short in
     let h = m_range in omega arith
 
-pub overflow_cast-m : goal.overflow_cast-m
-overflow_cast-m c =
-    let m_range = m_range (goal.at.overflow_cast-m c).Else-not-is_short in
-    let h = m_range in omega arith
-
-pub overflow_add-port : goal.overflow_add-port
-overflow_add-port c =
-    let short = short (goal.at.overflow_add-port c).Else-not-is_short in
+pub overflow_add-at : goal.overflow_add-at
+overflow_add-at c =
+    let short = short (goal.at.overflow_add-at c).Else-not-is_short in
     let h = short.room in omega arith
 
 pub bounds-s-at-2 : goal.bounds-s-at-2
@@ -41,14 +36,9 @@ bounds-s-at-2 c =
     let short = short (goal.at.bounds-s-at-2 c).Else-not-is_short in
     let h = short.room in omega arith
 
-pub overflow_sub-port : goal.overflow_sub-port
-overflow_sub-port c =
-    let port_range = port_range (goal.at.overflow_sub-port c).Else-not-is_short in
-    let h = port_range in omega arith
-
-pub overflow_cast-port : goal.overflow_cast-port
-overflow_cast-port c =
-    let port_range = port_range (goal.at.overflow_cast-port c).Else-not-is_short in
+pub overflow_sub-s-2 : goal.overflow_sub-s-2
+overflow_sub-s-2 c =
+    let port_range = port_range (goal.at.overflow_sub-s-2 c).Else-not-is_short in
     let h = port_range in omega arith
 
 pub overflow_add-result : goal.overflow_add-result
@@ -59,4 +49,4 @@ overflow_add-result c =
 pub returns : goal.returns
 returns c =
     let short = short (goal.at.returns c).Else-not-is_short in
-    sym (short_read _ _ short)
+    rw (c.from-m.ensures, c.from-port.ensures) (sym (short_read _ _ short))

@@ -5,12 +5,4 @@ use Rattle.request.specs.Request.{ramp_at}
 use Rattle.request.proofs.read.ramp_at.Goals as goal
 
 pub overflow_cast-ramp : goal.overflow_cast-ramp
-overflow_cast-ramp c = omega (arith, good_most _ _ _ _ (sym c.field_within.ensures ∙ c.in-Good.is))
-
-pub returns-in-Bad : goal.returns-in-Bad
-unfolding ramp_at
-returns-in-Bad c = rw (sym c.field_within.ensures ∙ c.in-Bad.is)
-
-pub returns-in-Good : goal.returns-in-Good
-unfolding ramp_at
-returns-in-Good c = rw (sym c.field_within.ensures ∙ c.in-Good.is)
+overflow_cast-ramp c = omega (arith, good_most _ _ _ _ (sym c.field_within.ensures ∙ c.in-Some.is))

@@ -5,16 +5,4 @@ use Rattle.request.specs.Request.{set_lamp_at}
 use Rattle.request.proofs.read.set_lamp_at.Goals as goal
 
 pub overflow_cast-target : goal.overflow_cast-target
-overflow_cast-target c = omega (arith, good_most _ _ _ _ (sym c.field_within.ensures ∙ c.in-Good.is))
-
-pub returns-in-Bad : goal.returns-in-Bad
-unfolding set_lamp_at
-returns-in-Bad c = rw (sym c.field_within.ensures ∙ c.in-Bad.is)
-
-pub returns-in-Good : goal.returns-in-Good
-unfolding set_lamp_at
-returns-in-Good c =
-    rw (
-      sym c.field_within.ensures ∙ c.in-Good.is,
-      ← c.after_comma.ensures,
-    ) c.ramp_at.ensures
+overflow_cast-target c = omega (arith, good_most _ _ _ _ (sym c.field_within.ensures ∙ c.in-Some.is))

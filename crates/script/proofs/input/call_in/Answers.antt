@@ -12,15 +12,15 @@ returns-in_default c =
 
 pub returns-then-letter-eq120 : goal.returns-then-letter-eq120
 returns-then-letter-eq120 c =
-    sym (call_good c.args.letter c.args.s.now c.if-letter-eq114.false _ (sym c.figures_of.ensures ∙ c.in-Good.is)
+    sym (call_good c.args.letter c.args.s.now c.if-letter-eq114.false _ (sym c.figures_of.ensures ∙ c.in-Some.is)
     ∙ rw (eq-eqb c.args.letter 120 c.if-letter-eq120.true))
 
 pub returns-then-letter-eq119 : goal.returns-then-letter-eq119
 returns-then-letter-eq119 c =
-    sym (call_good c.args.letter c.args.s.now c.if-letter-eq114.false _ (sym c.figures_of.ensures ∙ c.in-Good.is)
+    sym (call_good c.args.letter c.args.s.now c.if-letter-eq114.false _ (sym c.figures_of.ensures ∙ c.in-Some.is)
     ∙ rw (ne_eqb c.args.letter 120 c.if-letter-eq120.false, eq-eqb c.args.letter 119 c.if-letter-eq119.true))
 
 pub returns : goal.returns
 returns c =
-    sym (call_good c.args.letter c.args.s.now c.if-letter-eq114.false _ (sym c.figures_of.ensures ∙ c.in-Good.is)
+    sym (call_good c.args.letter c.args.s.now c.if-letter-eq114.false _ (sym c.figures_of.ensures ∙ c.in-Some.is)
     ∙ rw (ne_eqb c.args.letter 120 c.if-letter-eq120.false, ne_eqb c.args.letter 119 c.if-letter-eq119.false))

@@ -25,7 +25,7 @@ returns-in_default-figures_of c =
 pub returns : goal.returns
 returns c =
     sym (reading_is c.args.s.now c.part_end-end.ensures c.if-end-s.false _ _
-    (sym c.figures_of.ensures ∙ c.in-Good.is) (sym c.figures_of-2.ensures ∙ c.in-Good-figures_of.is))
+    (sym c.figures_of.ensures ∙ c.in-Some.is) (sym c.figures_of-2.ensures ∙ c.in-Some-figures_of.is))
 
 pub slice_bounds-figures_of-count : goal.slice_bounds-figures_of-count
 slice_bounds-figures_of-count c = omega (arith, c.part_end-end.ensures, c.if-end-s.false, up_to_length 32 c.args.s.now)

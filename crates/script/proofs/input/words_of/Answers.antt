@@ -16,16 +16,16 @@ slice_bounds-figures_of-end c = sym (length-take-le _ _ (omega (arith, c.part_en
 
 pub returns-then-end-ne1 : goal.returns-then-end-ne1
 returns-then-end-ne1 c =
-    sym (input_long c.args.s.now c.part_end-end.ensures (sym c.figures_of.ensures ∙ c.in-Bad.is) c.if-end-ne1.true)
+    sym (input_long c.args.s.now c.part_end-end.ensures (sym c.figures_of.ensures ∙ c.in-None.is) c.if-end-ne1.true)
 
 pub bounds-s-0 : goal.bounds-s-0
 bounds-s-0 c = omega (arith, c.part_end-end.ensures, c.if-end-s.false, up_to_length 32 c.args.s.now)
 
-pub returns-in-Good : goal.returns-in-Good
-returns-in-Good c =
-    sym (input_line c.args.s.now c.part_end-end.ensures c.if-end-s.false _ (sym c.figures_of.ensures ∙ c.in-Good.is))
+pub returns-in-Some : goal.returns-in-Some
+returns-in-Some c =
+    sym (input_line c.args.s.now c.part_end-end.ensures c.if-end-s.false _ (sym c.figures_of.ensures ∙ c.in-Some.is))
 
 pub returns-else-end-ne1 : goal.returns-else-end-ne1
 returns-else-end-ne1 c =
     c.call_in.ensures
-    ∙ sym (input_call c.args.s.now c.part_end-end.ensures c.if-end-s.false (sym c.figures_of.ensures ∙ c.in-Bad.is) c.if-end-ne1.false)
+    ∙ sym (input_call c.args.s.now c.part_end-end.ensures c.if-end-s.false (sym c.figures_of.ensures ∙ c.in-None.is) c.if-end-ne1.false)

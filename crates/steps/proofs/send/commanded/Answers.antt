@@ -22,4 +22,4 @@ pub returns-in-Busy : goal.returns-in-Busy
 unfolding command_step
 returns-in-Busy c =
     let verdict = sym c.verdict_of.ensures ∙ c.in-Busy.is in
-    record { result = rw verdict c.says.ensures; counts = rw verdict }
+    record { result = rw (verdict, ← c.from.ensures) c.says.ensures; counts = rw verdict }

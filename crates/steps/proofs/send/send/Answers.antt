@@ -11,17 +11,17 @@ returns-then-is_silent c =
 
 pub commanded-requires : goal.commanded-requires
 commanded-requires c =
-    let read = rw c.in-Sent.is at c.command_at.ensures in
+    let read = rw c.in-Ok.is at c.command_at.ensures in
     (c.requires.0, c.requires.1, sent_few _ _ read, sent_inside _ _ read)
 
-pub returns-in-Fault : goal.returns-in-Fault
-returns-in-Fault c =
+pub returns-in-Err : goal.returns-in-Err
+returns-in-Err c =
     let ready = sym c.is_silent.ensures ∙ c.if-is_silent.false in
-    let read = rw c.in-Fault.is at c.command_at.ensures in
-    fault_answered _ _ _ _ _ _ ready read c.fails-in-Fault.ensures
+    let read = rw c.in-Err.is at c.command_at.ensures in
+    fault_answered _ _ _ _ _ _ ready read c.fails-in-Err.ensures
 
-pub returns-in-Sent : goal.returns-in-Sent
-returns-in-Sent c =
+pub returns-in-Ok : goal.returns-in-Ok
+returns-in-Ok c =
     let ready = sym c.is_silent.ensures ∙ c.if-is_silent.false in
-    let read = rw c.in-Sent.is at c.command_at.ensures in
+    let read = rw c.in-Ok.is at c.command_at.ensures in
     sent_answered _ _ _ _ _ _ ready read c.commanded.ensures

@@ -6,14 +6,14 @@ pub returns-then-not-is_sensor : goal.returns-then-not-is_sensor
 unfolding get_contact
 returns-then-not-is_sensor c = rw (sym c.is_sensor.ensures ∙ c.if-not-is_sensor.true) c.fails.ensures
 
-pub returns-in-Unread : goal.returns-in-Unread
+pub returns-in_default : goal.returns-in_default
 unfolding get_contact
-returns-in-Unread c =
+returns-in_default c =
     let sensor = sym c.is_sensor.ensures ∙ c.if-not-is_sensor.false in
-    rw (sensor, c.in-Unread.is) c.fails-in-Unread.ensures
+    rw (sensor, c.in_default.is) c.fails-in_default.ensures
 
-pub returns-in-Read : goal.returns-in-Read
+pub returns : goal.returns
 unfolding get_contact
-returns-in-Read c =
+returns c =
     let sensor = sym c.is_sensor.ensures ∙ c.if-not-is_sensor.false in
-    rw (sensor, c.in-Read.is) c.says.ensures
+    rw (sensor, c.in-Some.is, ← c.from.ensures) c.says.ensures

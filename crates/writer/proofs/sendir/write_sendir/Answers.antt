@@ -1,4 +1,5 @@
 use native.Mathlib.Omega.{arith}
+use Rattle.std.proofs.lemmas.Result.{err_from_is_err_and}
 use Rattle.laws.proofs.Put.{then}
 use Rattle.writer.proofs.Sending.{no_room, not_taken, head_small, few_pairs, whole_line}
 use Rattle.writer.proofs.sendir.write_sendir.Goals as goal
@@ -8,18 +9,20 @@ returns-then-buf-lt-ROOM c = no_room c.if-buf-lt-ROOM.true
 
 pub put_head-o-requires : goal.put_head-o-requires
 put_head-o-requires c =
-    let read = rw c.in-Sent.is at c.command_given.ensures in
+    let read = rw c.in_ok-f.was at c.command_given.ensures in
     (head_small _ _ read, omega (arith, c.if-buf-lt-ROOM.false))
 
 pub put_code-requires : goal.put_code-requires
 put_code-requires c =
-    let read = rw c.in-Sent.is at c.command_given.ensures in
+    let read = rw c.in_ok-f.was at c.command_given.ensures in
     (few_pairs _ _ read, omega (arith, few_pairs _ _ read, c.if-buf-lt-ROOM.false, c.put_head-o.ensures.1, c.put_head-o.auto.buf))
 
-pub returns-in-Fault : goal.returns-in-Fault
-returns-in-Fault c = not_taken _ _ c.if-buf-lt-ROOM.false (rw c.in-Fault.is at c.command_given.ensures)
+pub returns-in_err-f : goal.returns-in_err-f
+returns-in_err-f c =
+    let p = err_from_is_err_and c.from_residual.result c.from_residual.ensures.1 in
+    rw (p.1, p.2) (not_taken _ _ c.if-buf-lt-ROOM.false (rw c.in_err-f.was at c.command_given.ensures))
 
-pub returns-in-Sent : goal.returns-in-Sent
-returns-in-Sent c =
-    let read = rw c.in-Sent.is at c.command_given.ensures in
+pub returns : goal.returns
+returns c =
+    let read = rw c.in_ok-f.was at c.command_given.ensures in
     whole_line _ _ read c.if-buf-lt-ROOM.false (then c.put_head-o.ensures.0 c.put_code.ensures)

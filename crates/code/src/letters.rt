@@ -1,4 +1,4 @@
-// The pairs that have a letter.
+// The pairs that have a letter. Their count stays beside the array: there is no heap, and the memory is fixed.
 ghost use Rattle.std.specs.Prelude.{◌≡◌};
 ghost use Rattle.words.specs.Pairs.{same_pair};
 ghost use Rattle.code.specs.Letters.{no_letters, place_of, held, Learns};
@@ -23,6 +23,7 @@ impl Letters {
     }
 }
 
+// It stays beside `==`: its promise, `same_pair`, is the one of which `place_of` and `learn` speak.
 #[tactic(auto, unfolding(words::specs::Pairs::same_pair))]
 pub fn same(p: Pair, q: Pair) -> bool
     ensures { result ≡ same_pair p q }

@@ -57,7 +57,8 @@ fn most_letters(s: &[u8], at: usize, count: usize) -> usize
 }
 
 // Reads on behind a letter, as long as there are letters that have a pair. Its loop has one counter and one bound, reckoned before, as most of
-// a lettered code is read here.
+// a lettered code is read here. It stays a `while`: a `for` that returns at the first other byte takes 18 instructions in 100 more on a code of
+// letters, and one that is broken out of needs a second variable for the same place.
 fn letter_run(
     letters: Letters,
     s: &[u8],
@@ -71,28 +72,27 @@ fn letter_run(
 {
     let known = letters.pairs;
     let most = most_letters(s, at, count);
-    for more in 0..most {
-        let far = Far {
-            count: count + more,
-            at: at + more,
-        };
-        let b = s[far.at];
+    let mut more = 0;
+    while more < most {
+        let b = s[at + more];
         if !code::next::is_letter(b) {
-            return far;
+            break;
         }
         let i = usize::from(b - b'A');
         if letters.count <= i {
-            return far;
+            break;
         }
-        put_pair(counts, far.count, known[i]);
+        put_pair(counts, count + more, known[i]);
+        more += 1;
     }
     Far {
-        count: count + most,
-        at: at + most,
+        count: count + more,
+        at: at + more,
     }
 }
 
-// Reads on behind a spelled pair, as long as the quick reader finds pairs.
+// Reads on behind a spelled pair, as long as the quick reader finds pairs. Its loop stays a `while`: it ends where the quick reader finds none,
+// and the count that a `for` would give is wanted behind it.
 fn spelled_run(
     freq: u64,
     s: &[u8],

@@ -1,7 +1,7 @@
 // A request's line.
 ghost use Rattle.std.specs.Prelude.{◌≡◌, ◌++◌, ◌≤◌, length};
 ghost use Rattle.laws.specs.Bytes.{bytes};
-ghost use Rattle.laws.specs.Put.{Put};
+ghost use Rattle.text.specs.Write.{Room, Appended};
 ghost use Rattle.request.specs.Name.{fixed_word};
 ghost use Rattle.composer.specs.Fault.{judged};
 ghost use Rattle.composer.specs.Compose.{wish_text, room_fault, wish_outcome, sendir_outcome, Composes};
@@ -10,53 +10,53 @@ use crate::{ROOM, Wish};
 use command::given::Command;
 use reply::put_address;
 use request::Fixed;
-use text::write::put_word;
+use text::write::Out;
 use writer::Form;
 
-fn put_fixed(line: &mut [u8], fixed: Fixed) -> usize
-    requires { 128 ≤ length line.old }
-    ensures { Put line.old 0 (fixed_word fixed ++ bytes "\r") line.new result }
+fn put_fixed(out: &mut Out<'_>, fixed: Fixed)
+    requires { Room out.old 128 }
+    ensures { Appended out.old out.new (fixed_word fixed ++ bytes "\r") }
 {
     match fixed {
-        Fixed::Devices => put_word(line, 0, b"getdevices\r"),
-        Fixed::Version => put_word(line, 0, b"getversion\r"),
+        Fixed::Devices => out.word(b"getdevices\r"),
+        Fixed::Version => out.word(b"getversion\r"),
     }
 }
 
-// The bytes of a request and its CR at the start of a line; gives their number.
-fn put_wish(line: &mut [u8], wish: Wish) -> usize
-    requires { 128 ≤ length line.old }
-    ensures { Put line.old 0 (wish_text wish ++ bytes "\r") line.new result }
+// The bytes of a request and its CR.
+fn put_wish(out: &mut Out<'_>, wish: Wish)
+    requires { Room out.old 128 }
+    ensures { Appended out.old out.new (wish_text wish ++ bytes "\r") }
 {
     match wish {
-        Wish::Fixed(fixed) => put_fixed(line, fixed),
+        Wish::Fixed(fixed) => put_fixed(out, fixed),
         Wish::SetMode(place, mode) => {
-            let a = put_address(line, b"set_IR,", place);
-            reply::put_mode(line, a, mode)
+            put_address(out, b"set_IR,", place);
+            reply::put_mode(out, mode)
         }
         Wish::GetMode(place) => {
-            let a = put_address(line, b"get_IR,", place);
-            put_word(line, a, b"\r")
+            put_address(out, b"get_IR,", place);
+            out.byte(b'\r')
         }
         Wish::SetState(place, state) => {
-            let a = put_address(line, b"setstate,", place);
-            reply::put_last(line, a, state)
+            put_address(out, b"setstate,", place);
+            reply::put_last(out, state)
         }
         Wish::GetState(place) => {
-            let a = put_address(line, b"getstate,", place);
-            put_word(line, a, b"\r")
+            put_address(out, b"getstate,", place);
+            out.byte(b'\r')
         }
         Wish::Stop(place) => {
-            let a = put_address(line, b"stopir,", place);
-            put_word(line, a, b"\r")
+            put_address(out, b"stopir,", place);
+            out.byte(b'\r')
         }
         Wish::SetLamp(place, target, ramp) => {
-            let a = put_address(line, b"set_LED_LIGHTING,", place);
-            reply::put_two(line, a, target, ramp)
+            put_address(out, b"set_LED_LIGHTING,", place);
+            reply::put_two(out, target, ramp)
         }
         Wish::GetLamp(place) => {
-            let a = put_address(line, b"get_LED_LIGHTING,", place);
-            put_word(line, a, b"\r")
+            put_address(out, b"get_LED_LIGHTING,", place);
+            out.byte(b'\r')
         }
     }
 }
@@ -76,7 +76,9 @@ pub fn compose(line: &mut [u8], wish: Wish) -> Result<usize, u64>
     ensures { Composes (wish_outcome (length line.old) wish) line.old result line.new }
 {
     crate::fault::wish_fault(wish).and(room_fault(line.len()))?;
-    Ok(put_wish(line, wish))
+    let mut out = Out { buf: line, at: 0 };
+    put_wish(&mut out, wish);
+    Ok(out.at)
 }
 
 // The same of a sendir, in either form.
@@ -89,6 +91,8 @@ pub fn compose_sendir(
     ensures { Composes (sendir_outcome (length line.old) form command counts.now) line.old result line.new }
 {
     crate::fault::sendir_fault(command, counts).and(room_fault(line.len()))?;
-    let size = writer::sendir::write_sendir(line, form, command, counts)?;
-    Ok(put_word(line, size, b"\r"))
+    let at = writer::sendir::write_sendir(line, form, command, counts)?;
+    let mut out = Out { buf: line, at };
+    out.byte(b'\r');
+    Ok(out.at)
 }

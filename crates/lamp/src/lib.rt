@@ -27,31 +27,25 @@ pub struct Lamp {
 }
 
 // How far two levels are apart.
+#[tactic(auto, unfolding(crate::specs::Lamp::apart))]
 fn apart(a: Points, b: Points) -> Points
     ensures { result ≡ points (apart a.0 b.0) }
 {
-    if a.0 < b.0 {
-        return Points(b.0 - a.0);
-    }
-    Points(a.0 - b.0)
+    Points(a.0.abs_diff(b.0))
 }
 
 // What is left of a gap by some way more, down to nothing.
 fn remaining(gap: Points, way: u64) -> Points
     ensures { result ≡ points (gap.0 - way) }
 {
-    let before = gap.0 as u64;
-    if before <= way {
-        return Points(0);
-    }
-    Points((before - way) as u32)
+    Points(u64::from(gap.0).saturating_sub(way) as u32)
 }
 
 // A level in percent.
 fn exactly(percent: u8) -> Points
     ensures { result ≡ points (exactly percent) }
 {
-    Points(percent as u32 * Points::PERCENT)
+    Points(u32::from(percent) * Points::PERCENT)
 }
 
 impl Lamp {
@@ -59,9 +53,8 @@ impl Lamp {
     pub fn dark() -> Self
         ensures { result ≡ dark }
     {
-        let gap = Points(0);
         Lamp {
-            gap,
+            gap: Points(0),
             target: 0,
             ramp: 0,
             rises: false,
@@ -69,6 +62,7 @@ impl Lamp {
     }
 
     // Its exact level.
+    #[tactic(auto, unfolding(crate::specs::Lamp::level_of))]
     fn level(self) -> Points
         requires { SoundLamp self }
         ensures { result ≡ points (level_of self) }
@@ -81,49 +75,45 @@ impl Lamp {
     }
 
     // Its level in percent, rounded down.
+    #[tactic(auto, unfolding(crate::specs::Lamp::percent_of))]
     pub fn percent(self) -> u64
         requires { SoundLamp self }
         ensures { result ≡ percent_of self }
     {
-        let level = self.level();
-        (level.0 / Points::PERCENT) as u64
+        u64::from(self.level().0 / Points::PERCENT)
     }
 
     // Another target, from the exact level on; with ramp 0 it is there at once.
+    #[tactic(auto, unfolding(crate::specs::Lamp::turned))]
     pub fn turned(self, target: u8, ramp: u8) -> Lamp
         requires { SoundLamp self }
         ensures { result ≡ turned self target ramp }
     {
         let level = self.level();
         let goal = exactly(target);
-        let rises = level.0 < goal.0;
-        if ramp == 0 {
-            let gap = Points(0);
-            return Lamp {
-                gap,
-                target,
-                ramp,
-                rises,
-            };
-        }
-        let gap = apart(level, goal);
+        let gap = if ramp == 0 {
+            Points(0)
+        } else {
+            apart(level, goal)
+        };
         Lamp {
             gap,
             target,
             ramp,
-            rises,
+            rises: level.0 < goal.0,
         }
     }
 
     // Some microseconds later: nearer to its target, and there it stops.
+    #[tactic(auto, unfolding(crate::specs::Lamp::passed))]
     pub fn passed(self, wait: Micros) -> Lamp
         requires { SoundLamp self × (wait.0 ≤ 1000000000) }
         ensures { result ≡ passed self wait.0 }
     {
-        let way = self.ramp as u64 * wait.0;
-        let gap = remaining(self.gap, way);
-        let mut next = self;
-        next.gap = gap;
-        next
+        let way = u64::from(self.ramp) * wait.0;
+        Lamp {
+            gap: remaining(self.gap, way),
+            ..self
+        }
     }
 }

@@ -6,7 +6,7 @@ ghost use Rattle.std.specs.Prelude.{◌≡◌, ◌-◌, ◌*◌, ◌≤◌};
 ghost use Rattle.laws.specs.Lists.{numbers};
 ghost use Rattle.code.specs.Limits.{most_pairs};
 ghost use Rattle.meaning.specs.Time.{lasts};
-ghost use Rattle.pace.specs.Pace.{SoundPace, WideCount, periods, ticks, started, end_of, finished, renewed, place_of, moved_to, passed};
+ghost use Rattle.pace.specs.Pace.{SoundPace, WideCount, periods, ticks, started, end_of, finished, renewed, place_of, passed};
 
 use code::Code;
 
@@ -32,7 +32,8 @@ pub struct Pace {
     pub at: Ticks,
 }
 
-// What a wait makes of a transmission: it runs on, or it is complete at a moment from the wait's start.
+// What a wait makes of a transmission: it runs on, or it is complete at a moment from the wait's start. It stays an enum of its own: neither
+// outcome is an absence or a failure of the other, and as an Option or a Result it would say so.
 #[derive(Clone, Copy)]
 pub enum Passed {
     Running(Pace),
@@ -43,7 +44,7 @@ pub enum Passed {
 fn wide(count: u16) -> u32
     ensures { WideCount count result }
 {
-    count as u32
+    u32::from(count)
 }
 
 // What the pairs from one to before another last.
@@ -51,81 +52,73 @@ pub fn periods_of(counts: &[u16; Code::MOST_COUNTS], from: usize, to: usize) -> 
     requires { (from ≤ to) × (to ≤ most_pairs) }
     ensures { result ≡ periods (lasts (numbers counts.now (2 * from) (2 * (to - from)))) }
 {
-    let end = 2 * to;
-    let mut sum: u32 = 0;
-    let mut i = 2 * from;
-    while i < end {
+    let mut sum = 0;
+    for i in 2 * from..2 * to {
         sum += wide(counts[i]);
-        i += 1;
     }
     Periods(sum)
 }
 
 impl Pace {
-    pub fn started(lead: Periods, tail: Periods, repeat: u32) -> Self
-        ensures { result ≡ started lead tail repeat }
+    pub fn started(lead: Periods, tail: Periods, copies: u32) -> Self
+        ensures { result ≡ started lead tail copies }
     {
-        let at = Ticks(0);
         Pace {
             lead,
             tail,
-            copies: repeat,
-            at,
+            copies,
+            at: Ticks(0),
         }
     }
 
     // Where it is complete.
+    #[tactic(auto, using(crate::proofs::Bounds::copies_high), unfolding(crate::specs::Pace::end_of))]
     pub fn end(self) -> Ticks
         requires { SoundPace self }
         ensures { result ≡ ticks (end_of self) }
     {
-        Ticks((self.lead.0 as u64 + self.copies as u64 * self.tail.0 as u64) * 1000000)
+        Ticks((u64::from(self.lead.0) + u64::from(self.copies) * u64::from(self.tail.0)) * 1000000)
     }
 
     // The copies that are finished; at an exact boundary the one just ended is.
+    #[tactic(auto, unfolding(crate::specs::Pace::finished))]
     pub fn finished(self) -> u64
         requires { SoundPace self }
         ensures { result ≡ finished self }
     {
-        let lead = self.lead.0 as u64 * 1000000;
-        if self.at.0 < lead {
-            return 0;
-        }
-        (self.at.0 - lead) / (self.tail.0 as u64 * 1000000)
+        let lead = u64::from(self.lead.0) * 1000000;
+        self.at.0.saturating_sub(lead) / (u64::from(self.tail.0) * 1000000)
     }
 
     // The copies finished and so many more; those that are finished are taken off both sides.
+    #[tactic(auto, using(crate::proofs::Bounds::finished_within, crate::proofs::Bounds::end_high), unfolding(crate::specs::Pace::renewed))]
     pub fn renewed(self, repeat: u32) -> Pace
         requires { SoundPace self }
         ensures { result ≡ renewed self repeat }
     {
-        let behind = self.finished() * (self.tail.0 as u64 * 1000000);
-        let mut next = self.moved(Ticks(self.at.0 - behind));
-        next.copies = repeat;
-        next
+        let behind = self.finished() * (u64::from(self.tail.0) * 1000000);
+        Pace {
+            copies: repeat,
+            at: Ticks(self.at.0 - behind),
+            ..self
+        }
     }
 
     // The place in the pairs, in ticks.
+    #[tactic(auto, using(crate::proofs::Bounds::within_high), unfolding(crate::specs::Pace::place_of))]
     pub fn place(self) -> Ticks
         requires { SoundPace self }
         ensures { result ≡ ticks (place_of self) }
     {
-        let lead = self.lead.0 as u64 * 1000000;
+        let lead = u64::from(self.lead.0) * 1000000;
         if self.at.0 < lead {
             return self.at;
         }
-        Ticks(lead + (self.at.0 - lead) % (self.tail.0 as u64 * 1000000))
-    }
-
-    fn moved(self, at: Ticks) -> Pace
-        ensures { result ≡ moved_to self at.0 }
-    {
-        let mut next = self;
-        next.at = at;
-        next
+        Ticks(lead + (self.at.0 - lead) % (u64::from(self.tail.0) * 1000000))
     }
 
     // A wait at a frequency.
+    #[tactic(auto, using(crate::proofs::Bounds::wait_high, crate::proofs::Bounds::end_high), unfolding(crate::specs::Pace::passed, meaning::specs::Time::first_micro))]
     pub fn passed(self, freq: u64, wait: Micros) -> Passed
         requires { SoundPace self × (1 ≤ freq) × (freq ≤ 500000) × (wait.0 ≤ 1000000000) }
         ensures { result ≡ passed self freq wait.0 }
@@ -136,6 +129,9 @@ impl Pace {
             let left = end.0 - self.at.0;
             return Passed::Complete(Micros((left + (freq - 1)) / freq));
         }
-        Passed::Running(self.moved(Ticks(after)))
+        Passed::Running(Pace {
+            at: Ticks(after),
+            ..self
+        })
     }
 }

@@ -6,11 +6,12 @@ ghost use Rattle.laws.specs.Put.{Put};
 ghost use Rattle.laws.specs.Bytes.{bytes};
 ghost use Rattle.words.specs.Decimal.{decimal, three_digits};
 ghost use Rattle.request.specs.Mode.{mode_word};
+ghost use Rattle.text.specs.Write.{Room, Appended};
 ghost use Rattle.reply.specs.Reply.{address_text, fixed_text, reply_text};
 
 use request::mode::Mode;
 use request::{Fixed, Place};
-use text::write::{put_number, put_word};
+use text::write::Out;
 
 #[derive(Clone, Copy)]
 pub enum Reply {
@@ -58,115 +59,124 @@ impl Reply {
 }
 
 // A word, and then m:p.
-pub fn put_address(buf: &mut [u8], w: &[u8], place: Place) -> usize
-    requires { length w.now + 41 ≤ length buf.old }
-    ensures { Put buf.old 0 (address_text w.now place) buf.new result × (result ≤ length w.now + 41) }
+pub fn put_address(out: &mut Out<'_>, w: &[u8], place: Place)
+    requires { Room out.old (length w.now + 41) }
+    ensures wrote { Appended out.old out.new (address_text w.now place) }
+    ensures within { out.new.at ≤ out.old.at + (length w.now + 41) }
 {
-    let a = put_word(buf, 0, w);
-    let b = put_number(buf, a, place.m);
-    let c = put_word(buf, b, b":");
-    put_number(buf, c, place.port)
+    out.word(w);
+    out.number(place.m);
+    out.byte(b':');
+    out.number(place.port)
 }
 
 // A comma, a number and the CR.
-pub fn put_last(buf: &mut [u8], at: usize, n: u64) -> usize
-    requires { at + 22 ≤ length buf.old }
-    ensures { Put buf.old at (bytes "," ++ decimal n ++ bytes "\r") buf.new result }
+pub fn put_last(out: &mut Out<'_>, n: u64)
+    requires { Room out.old 22 }
+    ensures { Appended out.old out.new (bytes "," ++ decimal n ++ bytes "\r") }
 {
-    let a = put_word(buf, at, b",");
-    let b = put_number(buf, a, n);
-    put_word(buf, b, b"\r")
+    out.byte(b',');
+    out.number(n);
+    out.byte(b'\r')
 }
 
 // Two numbers, each behind a comma, and the CR.
-pub fn put_two(buf: &mut [u8], at: usize, n: u64, last: u64) -> usize
-    requires { at + 43 ≤ length buf.old }
-    ensures { Put buf.old at (bytes "," ++ (decimal n ++ bytes "," ++ decimal last) ++ bytes "\r") buf.new result }
+pub fn put_two(out: &mut Out<'_>, n: u64, last: u64)
+    requires { Room out.old 43 }
+    ensures { Appended out.old out.new (bytes "," ++ (decimal n ++ bytes "," ++ decimal last) ++ bytes "\r") }
 {
-    let a = put_word(buf, at, b",");
-    let b = put_number(buf, a, n);
-    let c = put_word(buf, b, b",");
-    let d = put_number(buf, c, last);
-    put_word(buf, d, b"\r")
+    out.byte(b',');
+    out.number(n);
+    out.byte(b',');
+    out.number(last);
+    out.byte(b'\r')
 }
 
 // A comma, three digits and the CR.
-fn put_error_number(buf: &mut [u8], at: usize, n: u64) -> usize
-    requires { at + 5 ≤ length buf.old }
-    ensures { Put buf.old at (bytes "," ++ three_digits n ++ bytes "\r") buf.new result }
+fn put_error_number(out: &mut Out<'_>, n: u64)
+    requires { Room out.old 5 }
+    ensures { Appended out.old out.new (bytes "," ++ three_digits n ++ bytes "\r") }
 {
-    let a = put_word(buf, at, b",");
-    buf[a] = b'0' + (n / 100 % 10) as u8;
-    buf[a + 1] = b'0' + (n / 10 % 10) as u8;
-    buf[a + 2] = b'0' + (n % 10) as u8;
-    put_word(buf, a + 3, b"\r")
+    out.byte(b',');
+    out.byte(b'0' + (n / 100 % 10) as u8);
+    out.byte(b'0' + (n / 10 % 10) as u8);
+    out.byte(b'0' + (n % 10) as u8);
+    out.byte(b'\r')
 }
 
-pub fn put_mode(buf: &mut [u8], at: usize, mode: Mode) -> usize
-    requires { at + 14 ≤ length buf.old }
-    ensures { Put buf.old at (bytes "," ++ mode_word mode ++ bytes "\r") buf.new result }
+pub fn put_mode(out: &mut Out<'_>, mode: Mode)
+    requires { Room out.old 14 }
+    ensures { Appended out.old out.new (bytes "," ++ mode_word mode ++ bytes "\r") }
 {
     match mode {
-        Mode::Ir => put_word(buf, at, b",IR\r"),
-        Mode::Sensor => put_word(buf, at, b",SENSOR\r"),
-        Mode::IrBlaster => put_word(buf, at, b",IR_BLASTER\r"),
-        Mode::LedLighting => put_word(buf, at, b",LED_LIGHTING\r"),
+        Mode::Ir => out.word(b",IR\r"),
+        Mode::Sensor => out.word(b",SENSOR\r"),
+        Mode::IrBlaster => out.word(b",IR_BLASTER\r"),
+        Mode::LedLighting => out.word(b",LED_LIGHTING\r"),
     }
 }
 
 // The whole reply of a request without an address.
-fn put_fixed(buf: &mut [u8], fixed: Fixed) -> usize
-    requires { 66 ≤ length buf.old }
-    ensures { Put buf.old 0 (fixed_text fixed) buf.new result }
+fn put_fixed(out: &mut Out<'_>, fixed: Fixed)
+    requires { Room out.old 66 }
+    ensures { Appended out.old out.new (fixed_text fixed) }
 {
     match fixed {
-        Fixed::Devices => put_word(
-            buf,
-            0,
+        Fixed::Devices => out.word(
             b"device,0,0 ETHERNET\rdevice,1,3 IR\rdevice,2,3 RELAY\rendlistdevices\r",
         ),
-        Fixed::Version => put_word(buf, 0, b"LH-01\r"),
+        Fixed::Version => out.word(b"LH-01\r"),
     }
 }
 
-// The bytes of a reply at the start of a buffer; gives their number. Any numbers have room.
-pub fn put_reply(buf: &mut [u8], reply: Reply) -> usize
-    requires { 128 ≤ length buf.old }
-    ensures { Put buf.old 0 (reply_text reply) buf.new result }
+// The bytes of a reply. Any numbers have room.
+fn put(out: &mut Out<'_>, reply: Reply)
+    requires { Room out.old 128 }
+    ensures { Appended out.old out.new (reply_text reply) }
 {
     match reply {
-        Reply::Fixed(fixed) => put_fixed(buf, fixed),
+        Reply::Fixed(fixed) => put_fixed(out, fixed),
         Reply::Error { number, place } => {
-            let a = put_address(buf, b"ERR_", place);
-            put_error_number(buf, a, number)
+            put_address(out, b"ERR_", place);
+            put_error_number(out, number)
         }
         Reply::Mode { place, mode } => {
-            let a = put_address(buf, b"IR,", place);
-            put_mode(buf, a, mode)
+            put_address(out, b"IR,", place);
+            put_mode(out, mode)
         }
         Reply::State { place, state } => {
-            let a = put_address(buf, b"state,", place);
-            put_last(buf, a, state)
+            put_address(out, b"state,", place);
+            put_last(out, state)
         }
         Reply::Complete { place, id } => {
-            let a = put_address(buf, b"completeir,", place);
-            put_last(buf, a, id)
+            put_address(out, b"completeir,", place);
+            put_last(out, id)
         }
         Reply::Busy { place, id } => {
-            let a = put_address(buf, b"busyIR,", place);
-            put_last(buf, a, id)
+            put_address(out, b"busyIR,", place);
+            put_last(out, id)
         }
         Reply::Stopped { place } => {
-            let a = put_address(buf, b"stopir,", place);
-            put_word(buf, a, b"\r")
+            put_address(out, b"stopir,", place);
+            out.byte(b'\r')
         }
         Reply::Lamp {
             place,
             level,
             target,
         } => {
-            let a = put_address(buf, b"LED_LIGHTING,", place);
-            put_two(buf, a, level, target)
+            put_address(out, b"LED_LIGHTING,", place);
+            put_two(out, level, target)
         }
     }
+}
+
+// The bytes of a reply at the start of a buffer; gives their number.
+pub fn put_reply(buf: &mut [u8], reply: Reply) -> usize
+    requires { 128 ≤ length buf.old }
+    ensures { Put buf.old 0 (reply_text reply) buf.new result }
+{
+    let mut out = Out { buf, at: 0 };
+    put(&mut out, reply);
+    out.at
 }

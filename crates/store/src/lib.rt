@@ -17,11 +17,7 @@ pub fn keep(kept: &mut [u16], counts: &[u16; Code::MOST_COUNTS], count: usize)
     ensures { kept.new ≡ stored_in kept.old 0 (counts_in counts.now count) }
 {
     let end = 2 * count;
-    let mut i: usize = 0;
-    while i < end {
-        kept[i] = counts[i];
-        i += 1;
-    }
+    kept[..end].copy_from_slice(&counts[..end]);
 }
 
 // Whether the first count pairs kept are these.
@@ -30,21 +26,14 @@ pub fn same(kept: &[u16], counts: &[u16; Code::MOST_COUNTS], count: usize) -> bo
     ensures { result ≡ alike (counts_in kept.now count) (counts_in counts.now count) }
 {
     let end = 2 * count;
-    let mut i: usize = 0;
-    while i < end {
-        if kept[i] != counts[i] {
-            return false;
-        }
-        i += 1;
-    }
-    true
+    kept[..end] == counts[..end]
 }
 
 // A count of carrier periods in ticks.
 fn ticks(count: u16) -> u64
     ensures { result ≡ count * 1000000 }
 {
-    (count as u64) * 1000000
+    u64::from(count) * 1000000
 }
 
 // Whether the carrier is on at a place, in ticks, of the first count pairs kept.
@@ -52,18 +41,15 @@ pub fn carrier(kept: &[u16], count: usize, place: u64) -> bool
     requires { (length kept.now ≡ most_counts) × (count ≤ most_pairs) }
     ensures { result ≡ on_at true (counts_in kept.now count) place }
 {
-    let end = 2 * count;
-    let mut i: usize = 0;
     let mut left = place;
     let mut on = true;
-    while i < end {
+    for i in 0..2 * count {
         let length = ticks(kept[i]);
         if left < length {
             return on;
         }
         left -= length;
         on = !on;
-        i += 1;
     }
     false
 }

@@ -3,4 +3,4 @@ pub mod Words
 pub mod Decimals
 pub mod Behind
 pub mod Limits
-pub mod Wrote
+pub mod Appended

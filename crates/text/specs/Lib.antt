@@ -1,3 +1,3 @@
 pub mod Number
 pub mod Field
-pub mod Out
+pub mod Write

@@ -3,5 +3,4 @@
 
 pub mod field;
 pub mod number;
-pub mod out;
 pub mod write;

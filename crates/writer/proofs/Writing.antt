@@ -1,14 +1,15 @@
 -- Laws of the loop that writes a code's text.
 use Prim.Native.Nat.{ℕ, ◌+◌, ◌-◌, ◌*◌, ◌≤◌, ◌<◌}
 use mathlib.Core.Path.{◌≡◌, refl, sym, ap, ◌∙◌}
-use mathlib.Core.List.{List, [], ◌++◌}
+use mathlib.Core.List.{List, [], ◌∷◌, ◌++◌}
 use native.Mathlib.Nat.{sub-zero}
 use native.Mathlib.Omega.{arith}
 use borrow.Author.Tests.{lt-ltb, le-ltb}
-use lib.ListN.{length, get_or, set, length-append, length-set}
+use lib.ListN.{length, get_or, length-append}
 use Rattle.laws.specs.Bytes.{bytes}
-use Rattle.laws.specs.Put.{Put}
-use Rattle.laws.proofs.Put.{nothing, then, byte}
+use Rattle.text.specs.declared.write.Out.{Out}
+use Rattle.text.specs.Write.{Room, Appended}
+use Rattle.text.proofs.Appended.{no_text, and_then}
 use Rattle.words.specs.Decimal.{decimal}
 use Rattle.words.specs.declared.Pair.{Pair}
 use Rattle.code.specs.declared.letters.Letters.{Letters}
@@ -53,62 +54,59 @@ pub pair_length : (after : After) (on off : ℕ)
 pair_length after on off =
     rw (length-append (comma after) (spelling (pair on off)), length-append (decimal on ++ bytes ",") (decimal off), length-append (decimal on) (bytes ","))
 
--- ---- the loop: whatever is laid down behind, the whole is laid down
-pub record Writing (form : Form) (buf₀ : List ℕ) (at count : ℕ) (counts buf : List ℕ) (t : Letters) (o : ℕ) (after : After) (j : ℕ) : Type 0 where
+-- ---- the loop: whatever is appended behind, the whole is appended
+pub record Writing (form : Form) (out₀ : Out) (count : ℕ) (counts : List ℕ) (out : Out) (t : Letters) (after : After) (j : ℕ) : Type 0 where
   pub kept : Kept t (held t)
   pub within : j ≤ count
-  pub same : length buf ≡ length buf₀
-  pub room : o + 14 * (count - j) ≤ length buf
-  pub goes : {b : List ℕ} {n : ℕ} → Put buf o (text_from after (items form (held t) (pairs_at counts j (count - j)))) b n
-      → Put buf₀ at (code_text form (pairs_at counts 0 count)) b n
+  pub room : Room out (14 * (count - j))
+  pub goes : {end : Out} → Appended out end (text_from after (items form (held t) (pairs_at counts j (count - j))))
+      → Appended out₀ end (code_text form (pairs_at counts 0 count))
 
-pub writing_start : (form : Form) (buf : List ℕ) (at count : ℕ) (counts : List ℕ) → at + 14 * count ≤ length buf
-    → Writing form buf at count counts buf no_letters at Nothing 0
+pub writing_start : (form : Form) (out : Out) (count : ℕ) (counts : List ℕ) → Room out (14 * count)
+    → Writing form out count counts out no_letters Nothing 0
 unfolding code_text
-writing_start form buf at count counts r =
+writing_start form out count counts r =
     record {
       kept = record { few = omega arith; counted = refl; are = refl };
       within = omega arith;
-      same = refl;
-      room = omega arith;
+      room = omega (arith, r);
       goes = λ p. rw (text_from_law (items form [] (pairs_at counts 0 count))) (rw (sub-zero count) at p);
     }
 
-module _ {form : Form} {buf₀ : List ℕ} {at count : ℕ} {counts buf : List ℕ} {t : Letters} {o : ℕ} {after : After} {j : ℕ}
-    (w : Writing form buf₀ at count counts buf t o after j) where
-  pub writing_end : count ≤ j → Put buf₀ at (code_text form (pairs_at counts 0 count)) buf o
+module _ {form : Form} {out₀ : Out} {count : ℕ} {counts : List ℕ} {out : Out} {t : Letters} {after : After} {j : ℕ}
+    (w : Writing form out₀ count counts out t after j) where
+  pub writing_end : count ≤ j → Appended out₀ out (code_text form (pairs_at counts 0 count))
   writing_end h =
       let none : count - j ≡ 0 = omega arith in
-      w.goes (rw none (nothing buf o (omega (arith, w.room))))
+      w.goes (rw none (no_text (omega (arith, w.room))))
 
   module _ (h : j < count) where
     abbrev q : Pair
     q = pair (get_or counts (2 * j) 0) (get_or counts (2 * j + 1) 0)
 
     -- one item of the text is written
-    step : {x : Item} {t' : Letters} {buf' : List ℕ} {o' : ℕ} → item_of form (held t) q ≡ x → Kept t' (learnt (held t) q)
-        → Put buf o (front after x ++ item_text x) buf' o' → length buf' ≡ length buf → o' ≤ o + 14
-        → Writing form buf₀ at count counts buf' t' o' (after_of x) (j + 1)
-    step e k p s r =
+    step : {x : Item} {t' : Letters} {out' : Out} → item_of form (held t) q ≡ x → Kept t' (learnt (held t) q)
+        → Appended out out' (front after x ++ item_text x) → out'.at ≤ out.at + 14
+        → Writing form out₀ count counts out' t' (after_of x) (j + 1)
+    step e k p r =
         record {
           kept = record { few = k.few; counted = k.counted; are = refl };
           within = omega arith;
-          same = s ∙ w.same;
-          room = omega (arith, w.room);
-          goes = λ g. w.goes (rw (pairs_next counts j count h, e) (then p (rw k.are at g)));
+          room = omega (arith, w.room, p.size);
+          goes = λ g. w.goes (rw (pairs_next counts j count h, e) (and_then p (rw k.are at g)));
         }
 
-    pub writing_letter : {i : ℕ} → i ≡ place_of q (held t) → i < in_use form t.count
-        → Writing form buf₀ at count counts (set buf o (65 + i)) t (o + 1) Lettering (j + 1)
-    writing_letter {i} e l =
+    pub writing_letter : {i : ℕ} {out' : Out} → i ≡ place_of q (held t) → i < in_use form t.count → Appended out out' ((65 + i) ∷ [])
+        → Writing form out₀ count counts out' t Lettering (j + 1)
+    writing_letter {i} e l p =
         let m : place_of q (held t) < in_use form (length (held t)) = rw (w.kept.counted, ← e) l in
         let n : place_of q (held t) < length (held t) = omega (arith, at_most form (length (held t))) in
         step (item_letter form (held t) q m ∙ ap letter (sym e))
         (record { few = w.kept.few; counted = w.kept.counted; are = sym (learnt_known (held t) q n) })
-        (rw (front_letter after i) (byte buf o (65 + i) (omega (arith, w.room)))) (length-set buf o (65 + i)) (omega arith)
+        (rw (front_letter after i) p) (omega (arith, p.put.place))
 
-    pub writing_spelled : {i o' : ℕ} {t' : Letters} {buf' : List ℕ} → i ≡ place_of q (held t) → in_use form t.count ≤ i
-        → Put buf o (comma after ++ spelling q) buf' o' × (o' ≤ o + 14) → length buf' ≡ length buf → Kept t' (learnt (held t) q)
-        → Writing form buf₀ at count counts buf' t' o' Spelling (j + 1)
+    pub writing_spelled : {i : ℕ} {t' : Letters} {out' : Out} → i ≡ place_of q (held t) → in_use form t.count ≤ i
+        → Appended out out' (comma after ++ spelling q) → out'.at ≤ out.at + 14 → Kept t' (learnt (held t) q)
+        → Writing form out₀ count counts out' t' Spelling (j + 1)
     writing_spelled e l p s k =
-        step (item_spelled form (held t) q (rw (w.kept.counted, ← e) l)) k (rw (front_comma after q) p.0) s p.1
+        step (item_spelled form (held t) q (rw (w.kept.counted, ← e) l)) k (rw (front_comma after q) p) s

@@ -1,6 +1,6 @@
 // A code's text.
 ghost use Rattle.std.specs.Prelude.{◌≡◌, ◌++◌, ◌+◌, ◌*◌, ◌≤◌, length};
-ghost use Rattle.laws.specs.Put.{Put};
+ghost use Rattle.text.specs.Write.{Room, Appended};
 ghost use Rattle.words.specs.Pairs.{pair};
 ghost use Rattle.code.specs.Limits.{most_pairs};
 ghost use Rattle.decoder.specs.Follows.{pairs_at};
@@ -10,6 +10,7 @@ use crate::Form;
 use code::Code;
 use code::letters::Letters;
 use code::next::After;
+use text::write::Out;
 use words::Pair;
 
 // Of so many letters, those that the form uses.
@@ -23,43 +24,34 @@ fn in_use(form: Form, letters: usize) -> usize
 }
 
 // The comma between two spelled pairs.
-fn put_comma(buf: &mut [u8], at: usize, after: After) -> usize
-    requires { at + 1 ≤ length buf.old }
-    ensures { Put buf.old at (comma after) buf.new result }
+fn put_comma(out: &mut Out<'_>, after: After)
+    requires { Room out.old 1 }
+    ensures { Appended out.old out.new (comma after) }
 {
     match after {
-        After::Nothing => at,
-        After::Spelling => {
-            buf[at] = b',';
-            at + 1
-        }
-        After::Lettering => at,
+        After::Nothing => {}
+        After::Spelling => out.byte(b','),
+        After::Lettering => {}
     }
 }
 
-fn put_spelled(buf: &mut [u8], at: usize, after: After, on: u16, off: u16) -> usize
-    requires { at + 14 ≤ length buf.old }
-    ensures { Put buf.old at (comma after ++ spelling (pair on off)) buf.new result × (result ≤ at + 14) }
+fn put_spelled(out: &mut Out<'_>, after: After, on: u16, off: u16)
+    requires { Room out.old 14 }
+    ensures spelled { Appended out.old out.new (comma after ++ spelling (pair on off)) }
+    ensures within { out.new.at ≤ out.old.at + 14 }
 {
-    let a = put_comma(buf, at, after);
-    let b = text::write::put_number(buf, a, on as u64);
-    let c = text::write::put_word(buf, b, b",");
-    text::write::put_number(buf, c, off as u64)
+    put_comma(out, after);
+    out.number(on as u64);
+    out.byte(b',');
+    out.number(off as u64)
 }
 
 // The text of the first count pairs that stand in memory.
-pub fn put_code(
-    buf: &mut [u8],
-    at: usize,
-    form: Form,
-    count: usize,
-    counts: &[u16; Code::MOST_COUNTS],
-) -> usize
-    requires { (count ≤ most_pairs) × (at + 14 * count ≤ length buf.old) }
-    ensures { Put buf.old at (code_text form (pairs_at counts.now 0 count)) buf.new result }
+pub fn put_code(out: &mut Out<'_>, form: Form, count: usize, counts: &[u16; Code::MOST_COUNTS])
+    requires { (count ≤ most_pairs) × Room out.old (14 * count) }
+    ensures { Appended out.old out.new (code_text form (pairs_at counts.now 0 count)) }
 {
     let mut letters = Letters::none();
-    let mut o = at;
     let mut after = After::Nothing;
     for j in 0..count {
         let first = 2 * j;
@@ -69,14 +61,12 @@ pub fn put_code(
         };
         let i = code::letters::place_of(letters, p);
         if i < in_use(form, letters.count) {
-            buf[o] = b'A' + (i % 15) as u8;
-            o += 1;
+            out.byte(b'A' + (i % 15) as u8);
             after = After::Lettering;
         } else {
-            o = put_spelled(buf, o, after, p.on, p.off);
+            put_spelled(out, after, p.on, p.off);
             letters = code::letters::learn(letters, p);
             after = After::Spelling;
         }
     }
-    o
 }

@@ -1,36 +1,39 @@
 // A sendir line, without its CR.
 ghost use Rattle.std.specs.Prelude.{◌+◌, ◌≤◌, ◌<◌, length};
-ghost use Rattle.laws.specs.Put.{Put};
+ghost use Rattle.text.specs.Write.{Room, Appended};
 ghost use Rattle.writer.specs.Sendir.{Small, field_text, sendir_head, Wrote};
 
 use crate::Form;
 use code::Code;
 use command::given::Command;
+use text::write::Out;
 use words::Fields;
 
 // The least room that the writer takes.
 pub const ROOM: usize = 4096;
 
 // A number and its comma.
-fn put_field(buf: &mut [u8], at: usize, n: u64) -> usize
-    requires { (n < 1000000) × (at + 7 ≤ length buf.old) }
-    ensures { Put buf.old at (field_text n) buf.new result × (result ≤ at + 7) }
+fn put_field(out: &mut Out<'_>, n: u64)
+    requires { (n < 1000000) × Room out.old 7 }
+    ensures field { Appended out.old out.new (field_text n) }
+    ensures within { out.new.at ≤ out.old.at + 7 }
 {
-    let a = text::write::put_number(buf, at, n);
-    text::write::put_word(buf, a, b",")
+    out.number(n);
+    out.byte(b',')
 }
 
 // All that stands before the code.
-fn put_head(buf: &mut [u8], port: u64, f: Fields) -> usize
-    requires { Small port f × (44 ≤ length buf.old) }
-    ensures { Put buf.old 0 (sendir_head port f) buf.new result × (result ≤ 44) }
+fn put_head(out: &mut Out<'_>, port: u64, f: Fields)
+    requires { Small port f × Room out.old 44 }
+    ensures head { Appended out.old out.new (sendir_head port f) }
+    ensures within { out.new.at ≤ out.old.at + 44 }
 {
-    let a = text::write::put_word(buf, 0, b"sendir,1:");
-    let b = put_field(buf, a, port);
-    let c = put_field(buf, b, f.id as u64);
-    let d = put_field(buf, c, f.freq as u64);
-    let e = put_field(buf, d, f.repeat as u64);
-    put_field(buf, e, f.offset as u64)
+    out.word(b"sendir,1:");
+    put_field(out, port);
+    put_field(out, f.id as u64);
+    put_field(out, f.freq as u64);
+    put_field(out, f.repeat as u64);
+    put_field(out, f.offset as u64)
 }
 
 // The line of a command in either form: its length, or 105, then 106, and nothing written.
@@ -47,7 +50,8 @@ pub fn write_sendir(
     }
     let mut counts = [0u16; Code::MOST_COUNTS];
     let (f, count) = command::given::command_given(command, given, &mut counts)?;
-    let place = command.place;
-    let o = put_head(buf, place.port, f);
-    Ok(crate::codetext::put_code(buf, o, form, count, &counts))
+    let mut out = Out { buf, at: 0 };
+    put_head(&mut out, command.place.port, f);
+    crate::codetext::put_code(&mut out, form, count, &counts);
+    Ok(out.at)
 }

@@ -1,14 +1,13 @@
 use native.Mathlib.Omega.{arith}
-use Rattle.laws.proofs.Put.{then}
 use Rattle.text.proofs.Decimals.{decimal_most}
+use Rattle.text.proofs.Appended.{and_then}
 use Rattle.reply.proofs.put_last.Goals as goal
 
-pub put_number-b-requires : goal.put_number-b-requires
-put_number-b-requires c = omega (arith, decimal_most c.args.n)
+pub number-requires : goal.number-requires
+number-requires c = omega (arith, decimal_most c.args.n)
 
-pub put_word-requires : goal.put_word-requires
-put_word-requires c = omega (arith, decimal_most c.args.n)
+pub byte-requires-2 : goal.byte-requires-2
+byte-requires-2 c = omega (arith, decimal_most c.args.n)
 
 pub returns : goal.returns
-returns c =
-    then (then c.put_word-a.ensures c.put_number-b.ensures) c.put_word.ensures
+returns c = and_then (and_then c.byte.ensures c.number.ensures) c.byte-2.ensures

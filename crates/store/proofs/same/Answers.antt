@@ -1,21 +1,13 @@
-use Prim.Native.Nat.{◌*◌}
-use mathlib.Core.Path.{sym, ◌∙◌}
-use native.Mathlib.Nat.{sub-zero}
-use Rattle.laws.proofs.Numbers.{numbers_none}
-use Rattle.words.specs.Pairs.{counts_in}
-use Rattle.store.proofs.Turns.{differ, agree}
-use borrow.Author.Rules.{rules}
+use Prim.Native.Nat.{◌*◌, ◌≤◌}
+use mathlib.Core.Path.{◌∙◌}
+use native.Mathlib.Omega.{arith}
+use lib.ListN.{length, take}
+use Rattle.words.proofs.Standing.{counts_first}
+use Rattle.store.proofs.Kept.{alike_is}
 use Rattle.store.proofs.same.Goals as goal
 
-pub loop-i-init : goal.loop-i-init
-unfolding counts_in
-loop-i-init c = (search rules, rw (sub-zero (2 * c.args.count)))
-
-pub returns-then-kept-i : goal.returns-then-kept-i
-returns-then-kept-i c = differ _ _ _ _ c.loop-i-test.true c.if-kept-i.true ∙ sym c.loop-i.invariant.1
-
-pub loop-i-preserved : goal.loop-i-preserved
-loop-i-preserved c = (search rules, c.loop-i.invariant.1 ∙ agree _ _ _ _ c.loop-i-test.true c.if-kept-i.false)
-
 pub returns : goal.returns
-returns c = sym (c.loop-i.invariant.1 ∙ rw (numbers_none _ _ _ c.loop-i-test.false, numbers_none _ _ _ c.loop-i-test.false))
+returns c =
+    let kept : 2 * c.args.count ≤ length c.args.kept.now = omega arith in
+    let counts : 2 * c.args.count ≤ length c.args.counts.now = omega arith in
+    rw (counts_first c.args.count c.args.kept.now kept, counts_first c.args.count c.args.counts.now counts) (c.eq.ensures ∙ alike_is (take (2 * c.args.count) c.args.kept.now) (take (2 * c.args.count) c.args.counts.now))

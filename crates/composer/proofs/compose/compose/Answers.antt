@@ -14,4 +14,5 @@ put_wish-requires c =
 
 pub returns : goal.returns
 returns c =
-    composed _ _ (refusal_judged _ _ c.wish_fault.ensures c.room_fault.ensures c.and.ensures) c.in_ok-and.was c.put_wish.ensures
+    let line = composed _ _ (refusal_judged _ _ c.wish_fault.ensures c.room_fault.ensures c.and.ensures) c.in_ok-and.was c.put_wish.ensures.put in
+    record { answer = line.answer; laid = grind (arith, line.laid) }

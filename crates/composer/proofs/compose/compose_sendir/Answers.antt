@@ -1,3 +1,4 @@
+use native.Mathlib.Omega.{arith}
 use Rattle.std.proofs.lemmas.Result.{err_from_is_err_and}
 use Rattle.laws.proofs.Choice.{clash}
 use Rattle.laws.proofs.Put.{then}
@@ -10,21 +11,22 @@ returns-in_err-and c =
     let p = err_from_is_err_and c.from_residual.result c.from_residual.ensures.1 in
     rw (p.1, p.2) (nothing_composed _ _ (refusal_judged _ _ c.sendir_fault.ensures c.room_fault.ensures c.and.ensures) c.in_err-and.was)
 
-pub put_word-requires : goal.put_word-requires
-put_word-requires c =
+pub byte-requires : goal.byte-requires
+byte-requires c =
     let none = none_refused _ _ c.sendir_fault.ensures c.room_fault.ensures c.and.ensures c.in_ok-and.was in
     let w = sendir_written none.0 none.1 c.write_sendir.ensures in
-    cr_fits w c.in_ok-size.was none.1
+    cr_fits w c.in_ok-at.was none.1
 
-pub returns-in_err-size : goal.returns-in_err-size
-returns-in_err-size c =
+pub returns-in_err-at : goal.returns-in_err-at
+returns-in_err-at c =
     let none = none_refused _ _ c.sendir_fault.ensures c.room_fault.ensures c.and.ensures c.in_ok-and.was in
     let w = sendir_written none.0 none.1 c.write_sendir.ensures in
-    clash (cc (w.answer, c.in_err-size.was))
+    clash (cc (w.answer, c.in_err-at.was))
 
 pub returns : goal.returns
 returns c =
     let none = none_refused _ _ c.sendir_fault.ensures c.room_fault.ensures c.and.ensures c.in_ok-and.was in
     let w = sendir_written none.0 none.1 c.write_sendir.ensures in
-    composed _ _ (refusal_judged _ _ c.sendir_fault.ensures c.room_fault.ensures c.and.ensures) c.in_ok-and.was
-    (then (written_put w c.in_ok-size.was none.1) c.put_word.ensures)
+    let line = composed _ _ (refusal_judged _ _ c.sendir_fault.ensures c.room_fault.ensures c.and.ensures) c.in_ok-and.was
+    (then (written_put w c.in_ok-at.was none.1) c.byte.ensures.put) in
+    record { answer = line.answer; laid = grind (arith, line.laid) }

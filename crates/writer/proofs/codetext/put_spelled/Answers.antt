@@ -3,29 +3,33 @@ use native.Mathlib.Omega.{arith}
 use lib.ListN.{length}
 use Rattle.words.specs.Decimal.{decimal}
 use Rattle.text.proofs.Decimals.{decimal_few}
-use Rattle.laws.proofs.Put.{then}
-use Rattle.writer.proofs.Writing.{comma_few, pair_length}
+use Rattle.text.proofs.Appended.{and_then}
+use Rattle.writer.proofs.Writing.{comma_few}
 use Rattle.writer.proofs.codetext.put_spelled.Goals as goal
+use Rattle.writer.proofs.codetext.put_spelled.Goals.{Start}
 
-pub put_number-b-requires : goal.put_number-b-requires
-put_number-b-requires c =
-    let on-few : length (decimal c.args.on) ≤ 6 = decimal_few c.args.on (omega (arith, c.ranges.on.fits)) in
-    omega (arith, on-few, comma_few c.args.after, c.put_comma-a.ensures.place, c.put_comma-a.auto.buf)
+on_few : (c : Start) → length (decimal c.args.on) ≤ 6
+on_few c = decimal_few c.args.on (omega (arith, c.ranges.on.fits))
 
-pub put_word-c-requires : goal.put_word-c-requires
-put_word-c-requires c =
-    let on-few : length (decimal c.args.on) ≤ 6 = decimal_few c.args.on (omega (arith, c.ranges.on.fits)) in
-    omega (arith, on-few, comma_few c.args.after, c.put_comma-a.ensures.place, c.put_comma-a.auto.buf, c.put_number-b.ensures.place, c.put_number-b.auto.buf)
+off_few : (c : Start) → length (decimal c.args.off) ≤ 6
+off_few c = decimal_few c.args.off (omega (arith, c.ranges.off.fits))
 
-pub put_number-requires : goal.put_number-requires
-put_number-requires c =
-    let on-few : length (decimal c.args.on) ≤ 6 = decimal_few c.args.on (omega (arith, c.ranges.on.fits)) in
-    let off-few : length (decimal c.args.off) ≤ 6 = decimal_few c.args.off (omega (arith, c.ranges.off.fits)) in
-    omega (arith, on-few, off-few, comma_few c.args.after, c.put_comma-a.ensures.place, c.put_comma-a.auto.buf, c.put_number-b.ensures.place, c.put_number-b.auto.buf, c.put_word-c.ensures.place, c.put_word-c.auto.buf)
+pub number-requires : goal.number-requires
+number-requires c = omega (arith, comma_few c.args.after, on_few (goal.at.number-requires c).Start)
 
-pub returns : goal.returns
-returns c =
-    let on-few : length (decimal c.args.on) ≤ 6 = decimal_few c.args.on (omega (arith, c.ranges.on.fits)) in
-    let off-few : length (decimal c.args.off) ≤ 6 = decimal_few c.args.off (omega (arith, c.ranges.off.fits)) in
-    let p = then c.put_comma-a.ensures (then (then c.put_number-b.ensures c.put_word-c.ensures) c.put_number.ensures) in
-    (p, omega (arith, p.place, pair_length c.args.after c.args.on c.args.off, on-few, off-few, comma_few c.args.after))
+pub byte-requires : goal.byte-requires
+byte-requires c = omega (arith, comma_few c.args.after, on_few (goal.at.byte-requires c).Start)
+
+pub number-requires-2 : goal.number-requires-2
+number-requires-2 c =
+    let start = (goal.at.number-requires-2 c).Start in
+    omega (arith, comma_few c.args.after, on_few start, off_few start)
+
+pub returns-clause-spelled : goal.returns-clause-spelled
+returns-clause-spelled c =
+    and_then c.put_comma.ensures (and_then (and_then c.number.ensures c.byte.ensures) c.number-2.ensures)
+
+pub returns-clause-within : goal.returns-clause-within
+returns-clause-within c =
+    let start = (goal.at.returns-clause-within c).Start in
+    omega (arith, comma_few c.args.after, on_few start, off_few start)

@@ -1,9 +1,5 @@
-use Prim.Native.Nat.{◌-◌}
 use Rattle.log_book.specs.Book.{SoundAll}
 use Rattle.log_book.proofs.book.Book.count.Given as goal
 
-abbrev pub invariant-loop-slot : goal.invariant-loop-slot
-invariant-loop-slot l = SoundAll l.tallies
-
-abbrev pub decreases-loop-slot : goal.decreases-loop-slot
-decreases-loop-slot l = 6 - l.slot
+abbrev pub invariant-loop-tally : goal.invariant-loop-tally
+invariant-loop-tally l = SoundAll l.tally-items

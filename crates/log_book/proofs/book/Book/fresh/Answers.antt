@@ -10,5 +10,5 @@ loop-slot-preserved c =
     let was = c.loop-slot in
     set_sound was.tallies was.slot c.fresh.result was.invariant (rw c.fresh.ensures (fresh_sound _))
 
-pub returns : goal.returns
-returns c = record { each = c.loop-slot.invariant }
+pub invariant_of-result : goal.invariant_of-result
+invariant_of-result c = record { each = c.loop-slot.invariant }

@@ -60,7 +60,8 @@ fn hand_all(rt: &impl Print, text: &[u8], counts: &[u64], fault: u64) -> bool {
     loop {
         let n = progress.count;
         let handed = reader::hand_out(progress, text, at);
-        match handed.piece {
+        let piece = handed.piece;
+        match piece {
             Ok(None) => {
                 return is_last(rt, counts, fault, n, 0) && ok;
             }

@@ -2,5 +2,6 @@ use Rattle.std.proofs.Common.{arith}
 use Rattle.reader.proofs.Pieces.{handed_more}
 use Rattle.vectors.proofs.handing.hand_all.Goals as goal
 
-pub loop-number-smaller : goal.loop-number-smaller
-loop-number-smaller g c = omega (arith, handed_more c.loop-number.progress _ _ c.hand_out-handed.ensures c.in-Pair.is)
+pub loop-p-smaller : goal.loop-p-smaller
+loop-p-smaller g c =
+    omega (arith, handed_more c.loop-p.progress _ _ c.hand_out-handed.ensures (rw c.in-Ok-Some.field-0-is at c.in-Ok-Some.is))

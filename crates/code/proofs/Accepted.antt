@@ -5,13 +5,14 @@ use mathlib.Core.Bool.{true}
 use mathlib.Core.List.{List, [], ◌∷◌, ◌++◌}
 use native.Mathlib.Omega.{arith}
 use lib.Dec.{ltb}
+use Rattle.std.specs.Prelude.{Result, Ok, Err}
 use lib.ListN.{length, get_or, length-append}
 use Rattle.laws.specs.Lists.{all}
-use Rattle.laws.proofs.Choice.{and_true, cond_case}
+use Rattle.laws.proofs.Choice.{cond_case}
 use Rattle.laws.proofs.Lists.{all_append, all_at}
 use Rattle.words.specs.declared.Pair.{Pair}
 use Rattle.code.specs.declared.next.Next.{Next}
-use Rattle.code.specs.declared.next.Next.TheVariants.{End, Spelled, Letter, Fault}
+use Rattle.code.specs.declared.next.Next.TheVariants.{End, Spelled, Letter}
 use Rattle.code.specs.declared.next.After.{After}
 use Rattle.code.specs.declared.next.After.TheVariants.{Nothing, Spelling, Lettering}
 use Rattle.code.specs.Limits.{legal_pair}
@@ -71,18 +72,17 @@ module _ (freq : ℕ) (s : List ℕ) where
   from (suc k) ps letters after at q =
       go (next_pair freq (length ps) (length letters) after s at) (next_sound freq (length ps) (length letters) after s at) (from k)
     where
-      go : (x : Next) → Sound freq (length ps) (length letters) after x
+      go : (x : Result Next ℕ) → Sound freq (length ps) (length letters) after x
           → ((ps' letters' : List Pair) (after' : After) (at' : ℕ) → Partly freq k ps' letters' after' → Within freq (read_from k freq s ps' letters' after' at'))
           → Within freq (read_on (read_from k freq s) ps letters x)
-      go End h ih =
+      go (Ok End) h ih =
           record { some = begun after (length ps) h q.some; most = omega (arith, q.count); allowed = q.allowed }
-      go (Spelled on off next) h ih =
-          let l : legal_pair freq (pair on off) ≡ true = and_true _ _ h.1 h.2 in
-          ih _ _ Spelling next (more (pair on off) q l (learnt_legal freq letters (pair on off) q.lettered l) (omega arith))
-      go (Letter i next) h ih =
+      go (Ok (Spelled p next)) h ih =
+          ih _ _ Spelling next (more p q h.1 (learnt_legal freq letters p q.lettered h.1) (omega arith))
+      go (Ok (Letter i next)) h ih =
           ih _ _ Lettering next
           (more (get_or letters i (pair 0 0)) q (all_at (legal_pair freq) letters i (pair 0 0) q.lettered h.1) q.lettered (omega arith))
-      go (Fault number) h ih = tt
+      go (Err number) h ih = tt
 
 pub accepted : (freq : ℕ) (s : List ℕ) (at : ℕ) (ps : List Pair) → read_code freq s at ≡ pairs ps → Accepted freq ps
 unfolding read_code

@@ -1,7 +1,7 @@
 -- Laws of letters: the search for a pair, and one pair more.
 use Prim.Native.Nat.{ℕ, zero, suc, ◌+◌, ◌≤◌, ◌<◌}
 use mathlib.Core.Path.{◌≡◌, refl, ap}
-use mathlib.Core.Bool.{true, false}
+use mathlib.Core.Bool.{true, false, cond, not}
 use mathlib.Core.List.{List, [], ◌∷◌, ◌++◌}
 use native.Mathlib.Omega.{arith}
 use native.Mathlib.Numerals.{add-one}
@@ -9,6 +9,10 @@ use borrow.Author.Tests.{lt-ltb, le-ltb, ltb-true, eq-eqb, eqb-true}
 use lib.Dec.{ltb, eqb}
 use lib.ListN.{length, take, drop, get_or, set, length-set, length-append, length-take, drop_of_length-le}
 use lib.Seq.{length-take-le, take-suc-set, get_or-take}
+use Rattle.std.specs.Prelude.{position, unwrap_or}
+use Rattle.std.specs.List.{position_or_len}
+use Rattle.std.proofs.lemmas.List.Sums.{prefix_len-le-length}
+use Rattle.std.proofs.lemmas.List.Recursion.{is_position_or_len}
 use Rattle.laws.proofs.Choice.{by_test, not_both, cond_case}
 use Rattle.laws.proofs.Lists.{drop_next}
 use Rattle.words.specs.declared.Pair.{Pair}
@@ -16,34 +20,14 @@ use Rattle.code.specs.declared.letters.Letters.{Letters}
 use Rattle.words.specs.Pairs.{pair, same_pair}
 use Rattle.code.specs.Letters.{place_of, has, learnt, letters_of, held, Kept}
 
--- the search for p among the first n, from place j on: what is left gives the same place
-abbrev pub Seeking : Pair → List Pair → ℕ → ℕ → Type 0
-Seeking p l n j = j + place_of p (drop j (take n l)) ≡ place_of p (take n l)
+-- the place of a pair is where std's search finds it, or behind all
+place_or_len : (p : Pair) (l : List Pair) → place_of p l ≡ position_or_len (λ q. same_pair q p) l
+place_or_len p l =
+    let next : (n : ℕ) → suc n ≡ 1 + n = λ n. omega arith in
+    is_position_or_len (place_of p) (λ q. same_pair q p) refl (λ q m. ap (cond (same_pair q p) 0) (next (place_of p m))) l
 
-module _ (p : Pair) (l : List Pair) (n j : ℕ) (e : Seeking p l n j) where
-  past : length (take n l) ≤ j → j ≡ place_of p (take n l)
-  past h = omega (arith, e, ap (place_of p) (drop_of_length-le (take n l) h))
-
-  pub place_end : n ≤ j → j ≡ place_of p (take n l)
-  place_end h = past (rw length-take (omega arith))
-
-  pub place_out : length l ≤ j → j ≡ place_of p (take n l)
-  place_out h = past (rw length-take (omega arith))
-
-  next : j < n → j < length l → drop j (take n l) ≡ get_or l j (pair 0 0) ∷ drop (j + 1) (take n l)
-  next h k =
-      let m : j < length (take n l) = rw length-take (omega arith) in
-      rw (drop_next (take n l) j (pair 0 0) m, get_or-take n l j (pair 0 0) h)
-
-  pub place_found : j < n → j < length l → same_pair (get_or l j (pair 0 0)) p ≡ true → j ≡ place_of p (take n l)
-  place_found h k f =
-      let g : place_of p (drop j (take n l)) ≡ 0 = rw (next h k, f) in
-      omega (arith, e)
-
-  pub place_other : j < n → j < length l → same_pair (get_or l j (pair 0 0)) p ≡ false → Seeking p l n (j + 1)
-  place_other h k f =
-      let g : place_of p (drop j (take n l)) ≡ suc (place_of p (drop (j + 1) (take n l))) = rw (next h k, f) in
-      omega (arith, e)
+pub place_position : (p : Pair) (l : List Pair) (n : ℕ) → n ≡ length l → unwrap_or (position (λ q. same_pair q p) l) n ≡ place_of p l
+place_position p l n e = grind (arith, place_or_len p l, prefix_len-le-length (λ q. not (same_pair q p)) l)
 
 -- ---- one pair more
 module _ (t : Letters) (p : Pair) (long : length t.pairs ≡ 15) (few : t.count ≤ 15) where

@@ -4,20 +4,20 @@ use mathlib.Core.Path.{◌≡◌}
 use mathlib.Core.Bool.{true, false}
 use mathlib.Core.List.{List}
 use lib.Dec.{ltb, leb, eqb}
+use Rattle.std.specs.Prelude.{Option, Some, None, Result, Ok, Err}
 use lib.ListN.{length, get_or}
 use borrow.Author.Tests.{ltb-true, ltb-false, leb-true, leb-false}
-use Rattle.laws.proofs.Choice.{cond_case, guard}
+use Rattle.laws.proofs.Choice.{and_true, cond_case, guard}
 use Rattle.words.specs.Digits.{is_digit}
 use Rattle.text.specs.Number.{number_at}
 use Rattle.text.specs.declared.number.Number.{Number}
 use Rattle.text.specs.declared.number.Number.TheVariants.{Missing, TooLong, Value}
-use Rattle.code.specs.declared.next.Count.{Count}
-use Rattle.code.specs.declared.next.Count.TheVariants.{Bad, Good}
 use Rattle.code.specs.declared.next.Next.{Next}
-use Rattle.code.specs.declared.next.Next.TheVariants.{End, Spelled, Letter, Fault}
+use Rattle.code.specs.declared.next.Next.TheVariants.{End, Spelled, Letter}
 use Rattle.code.specs.declared.next.After.{After}
 use Rattle.code.specs.declared.next.After.TheVariants.{Nothing, Spelling, Lettering}
-use Rattle.code.specs.Limits.{legal}
+use Rattle.words.specs.Pairs.{pair}
+use Rattle.code.specs.Limits.{legal, legal_pair}
 use Rattle.code.specs.Next.{is_letter, judged, count_at, paired, off_at, after_on, counted, spelled_at, letter_at, begun_at, begins, at_end, next_pair}
 
 pub letter_low : {b : ℕ} → is_letter b ≡ true → 65 ≤ b
@@ -35,15 +35,15 @@ Ends Spelling = Unit {0}
 Ends Lettering = Unit {0}
 
 -- what is read stands within the limits: behind n pairs, where m letters have a pair
-abbrev pub Sound : ℕ → ℕ → ℕ → After → Next → Type 0
-Sound freq n m after End = Ends after
-Sound freq n m after (Spelled on off at) = (n < 260) × (legal freq on ≡ true) × (legal freq off ≡ true)
-Sound freq n m after (Letter i at) = (n < 260) × (i < m)
-Sound freq n m after (Fault number) = Unit {0}
+abbrev pub Sound : ℕ → ℕ → ℕ → After → Result Next ℕ → Type 0
+Sound freq n m after (Ok End) = Ends after
+Sound freq n m after (Ok (Spelled p at)) = (n < 260) × (legal_pair freq p ≡ true)
+Sound freq n m after (Ok (Letter i at)) = (n < 260) × (i < m)
+Sound freq n m after (Err number) = Unit {0}
 
-abbrev SoundCount : ℕ → Count → Type 0
-SoundCount freq Bad = Unit {0}
-SoundCount freq (Good v at) = legal freq v ≡ true
+abbrev SoundCount : ℕ → Option (ℕ × ℕ) → Type 0
+SoundCount freq None = Unit {0}
+SoundCount freq (Some (v, at)) = legal freq v ≡ true
 
 module _ (freq n m : ℕ) (after : After) (s : List ℕ) where
   count_sound : (at : ℕ) → SoundCount freq (count_at freq s at)
@@ -53,16 +53,16 @@ module _ (freq n m : ℕ) (after : After) (s : List ℕ) where
       go : (x : Number) → SoundCount freq (judged freq x)
       go Missing = tt
       go (TooLong next) = tt
-      go (Value v next) = cond_case (SoundCount freq) (legal freq v) (Good v next) Bad (λ e. e) (λ e. tt)
+      go (Value v next) = cond_case (SoundCount freq) (legal freq v) (Some (v, next)) None (λ e. e) (λ e. tt)
 
   off_sound : (on at : ℕ) → n < 260 → legal freq on ≡ true → Sound freq n m after (off_at freq on s at)
   unfolding off_at
   off_sound on at h l =
       cond_case (Sound freq n m after) (is_letter (get_or s at 0)) _ _ (λ e. tt) (λ e. go (count_at freq s at) (count_sound at))
     where
-      go : (x : Count) → SoundCount freq x → Sound freq n m after (paired on x)
-      go Bad k = tt
-      go (Good v next) k = (h, l, k)
+      go : (x : Option (ℕ × ℕ)) → SoundCount freq x → Sound freq n m after (paired on x)
+      go None k = tt
+      go (Some (v, next)) k = (h, and_true _ _ l k)
 
   after_sound : (on at : ℕ) → n < 260 → legal freq on ≡ true → Sound freq n m after (after_on freq on s at)
   unfolding after_on
@@ -76,9 +76,9 @@ module _ (freq n m : ℕ) (after : After) (s : List ℕ) where
   spelled_sound at =
       cond_case (Sound freq n m after) (leb 260 n) _ _ (λ e. tt) (λ e. go (leb-false 260 n e) (count_at freq s at) (count_sound at))
     where
-      go : n < 260 → (x : Count) → SoundCount freq x → Sound freq n m after (counted freq s x)
-      go h Bad k = tt
-      go h (Good v next) k = after_sound v next h k
+      go : n < 260 → (x : Option (ℕ × ℕ)) → SoundCount freq x → Sound freq n m after (counted freq s x)
+      go h None k = tt
+      go h (Some (v, next)) k = after_sound v next h k
 
   letter_sound : (b next : ℕ) → Sound freq n m after (letter_at n m b next)
   unfolding letter_at

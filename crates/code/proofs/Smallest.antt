@@ -6,8 +6,7 @@ use native.Mathlib.Omega.{arith}
 use borrow.Author.Tests.{ltb-true, ltb-false, leb-true, lt-ltb, le-ltb, le-leb, lt-leb}
 use lib.Dec.{ltb}
 use Rattle.laws.proofs.Choice.{by_test, not_both, guard}
-use Rattle.code.specs.declared.limits.Smallest.{Smallest}
-use Rattle.code.specs.declared.limits.Smallest.TheVariants.{Refused, Count}
+use Rattle.std.specs.Prelude.{Result, Ok, Err}
 use Rattle.code.specs.Limits.{legal, freq_in_range, IsSmallest, SmallestCount}
 
 -- what a legal count is
@@ -77,7 +76,7 @@ search_halves {freq} {count} {next} more s e =
     rw (e, t)
     (record { low = s.low; high = omega (arith, s.high); passed = s.passed; reached = ltb-false (12500 * (count + more)) freq t }))
 
-pub search_ends : {freq count : ℕ} → 15000 ≤ freq → freq ≤ 500000 → Searching freq count 0 → SmallestCount freq (Count count)
+pub search_ends : {freq count : ℕ} → 15000 ≤ freq → freq ≤ 500000 → Searching freq count 0 → SmallestCount freq (Ok count)
 search_ends l h s = (
   record {
     allowed = is_legal (record { low = s.low; high = omega (arith, s.high); long = omega (arith, s.reached) });
@@ -88,7 +87,7 @@ search_ends l h s = (
 
 -- a division gives the same
 pub shortest_count : {freq : ℕ} → 15000 ≤ freq → freq ≤ 500000 → 4 ≤ (freq + 12499) / 12500
-    → SmallestCount freq (Count ((freq + 12499) / 12500))
+    → SmallestCount freq (Ok ((freq + 12499) / 12500))
 shortest_count {freq} l h s =
     search_ends
     l
@@ -102,8 +101,8 @@ smallest_unique freq c d p q =
     (λ e. by_test (ltb d c) (λ f. not_both q.allowed (p.least d (ltb-true d c f)))
     (λ f. omega (arith, ltb-false c d e, ltb-false d c f)))
 
-pub one_smallest : (freq : ℕ) (r s : Smallest) → SmallestCount freq r → SmallestCount freq s → r ≡ s
-one_smallest freq (Refused e) (Refused f) p q = ap Refused (p.0 ∙ sym q.0)
-one_smallest freq (Refused e) (Count d) p q = not_both q.1 p.1
-one_smallest freq (Count c) (Refused f) p q = not_both p.1 q.1
-one_smallest freq (Count c) (Count d) p q = ap Count (smallest_unique freq c d p.0 q.0)
+pub one_smallest : (freq : ℕ) (r s : Result ℕ ℕ) → SmallestCount freq r → SmallestCount freq s → r ≡ s
+one_smallest freq (Err e) (Err f) p q = ap Err (p.0 ∙ sym q.0)
+one_smallest freq (Err e) (Ok d) p q = not_both q.1 p.1
+one_smallest freq (Ok c) (Err f) p q = not_both p.1 q.1
+one_smallest freq (Ok c) (Ok d) p q = ap Ok (smallest_unique freq c d p.0 q.0)

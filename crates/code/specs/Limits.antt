@@ -1,9 +1,7 @@
 -- Document 01: "Each count is 4 to 50000 and lasts at least 80 µs: 12,500 × count is at least freq. The smallest legal
 -- count for a frequency is a public answer, refused with 005 for a frequency out of range."
-use Rattle.std.specs.Prelude.{ℕ, ◌*◌, ◌<◌, ◌≡◌, Bool, true, false, cond, ◌&&◌, ltb, leb}
+use Rattle.std.specs.Prelude.{ℕ, ◌*◌, ◌<◌, ◌≡◌, Bool, true, false, cond, ◌&&◌, ltb, leb, Result, Ok, Err}
 use Rattle.words.specs.declared.Pair.{Pair}
-use Rattle.code.specs.declared.limits.Smallest.{Smallest}
-use Rattle.code.specs.declared.limits.Smallest.TheVariants.{Refused, Count}
 
 unfoldable pub legal : ℕ → ℕ → Bool
 legal freq count = cond (ltb count 4) false (cond (ltb 50000 count) false (leb freq (12500 * count)))
@@ -43,9 +41,9 @@ pub record IsSmallest (freq count : ℕ) : Type 0 where
   pub allowed : legal freq count ≡ true
   pub least : (k : ℕ) → k < count → legal freq k ≡ false
 
-abbrev pub SmallestCount : ℕ → Smallest → Type 0
-SmallestCount freq (Refused number) = (number ≡ 5) × (freq_in_range freq ≡ false)
-SmallestCount freq (Count count) = IsSmallest freq count × (freq_in_range freq ≡ true)
+abbrev pub SmallestCount : ℕ → Result ℕ ℕ → Type 0
+SmallestCount freq (Err number) = (number ≡ 5) × (freq_in_range freq ≡ false)
+SmallestCount freq (Ok count) = IsSmallest freq count × (freq_in_range freq ≡ true)
 
 -- both counts of a pair are legal
 abbrev pub legal_pair : ℕ → Pair → Bool

@@ -1,5 +1,5 @@
 -- A whole code: its pairs, letters expanded, or the first fault from the left.
-use Rattle.std.specs.Prelude.{ℕ, zero, suc, ◌≡◌, List, [], ◌∷◌, ◌++◌, length, get_or}
+use Rattle.std.specs.Prelude.{ℕ, zero, suc, ◌≡◌, List, [], ◌∷◌, ◌++◌, length, get_or, Result, Ok, Err}
 use Rattle.laws.specs.Put.{stored_in}
 use Rattle.words.specs.declared.Pair.{Pair}
 use Rattle.code.specs.declared.Code.{Code}
@@ -18,11 +18,11 @@ pub data Reading : Type 0 where
   fault : ℕ → List Pair → Reading
 
 -- what stands next, after the pairs ps, of which some have letters; go reads on
-abbrev pub read_on : (List Pair → List Pair → After → ℕ → Reading) → List Pair → List Pair → Next → Reading
-read_on go ps letters next.End = pairs ps
-read_on go ps letters (next.Spelled on off at) = go (ps ++ (pair on off ∷ [])) (learnt letters (pair on off)) Spelling at
-read_on go ps letters (next.Letter i at) = go (ps ++ (get_or letters i (pair 0 0) ∷ [])) letters Lettering at
-read_on go ps letters (next.Fault number) = fault number ps
+abbrev pub read_on : (List Pair → List Pair → After → ℕ → Reading) → List Pair → List Pair → Result Next ℕ → Reading
+read_on go ps letters (Ok next.End) = pairs ps
+read_on go ps letters (Ok (next.Spelled p at)) = go (ps ++ (p ∷ [])) (learnt letters p) Spelling at
+read_on go ps letters (Ok (next.Letter i at)) = go (ps ++ (get_or letters i (pair 0 0) ∷ [])) letters Lettering at
+read_on go ps letters (Err number) = fault number ps
 
 -- the text s from a place on, after the pairs ps; k is how many more there may be, and one
 abbrev pub read_from : ℕ → ℕ → List ℕ → List Pair → List Pair → After → ℕ → Reading

@@ -1,4 +1,4 @@
-// The pairs that have a letter.
+// The pairs that have a letter. Their count stays beside the array: there is no heap, and the memory is fixed.
 ghost use Rattle.std.specs.Prelude.{◌≡◌};
 ghost use Rattle.words.specs.Pairs.{same_pair};
 ghost use Rattle.code.specs.Letters.{no_letters, place_of, held, Learns};
@@ -23,30 +23,23 @@ impl Letters {
     }
 }
 
+// It stays beside `==`: its promise, `same_pair`, is the one of which `place_of` and `learn` speak.
+#[tactic(auto, unfolding(words::specs::Pairs::same_pair))]
 pub fn same(p: Pair, q: Pair) -> bool
     ensures { result ≡ same_pair p q }
 {
-    if p.on == q.on { p.off == q.off } else { false }
+    p == q
 }
 
 // The place of a pair among those that have a letter, or their number where it has none.
 pub fn place_of(letters: Letters, p: Pair) -> usize
     ensures { result ≡ place_of p (held letters) }
 {
-    let count = letters.count;
-    let pairs = letters.pairs;
-    let mut j = 0;
-    while j < count {
-        if Code::LETTERS <= j {
-            return j;
-        }
-        let q = pairs[j];
-        if same(q, p) {
-            return j;
-        }
-        j += 1;
-    }
-    j
+    let count = letters.count.min(Code::LETTERS);
+    letters.pairs[..count]
+        .iter()
+        .position(|&q| same(q, p))
+        .unwrap_or(count)
 }
 
 // The letters after one pair more.

@@ -1,7 +1,8 @@
 // An infrared code: pairs of on and off counts of carrier periods, read from plain or lettered text.
 #![tactic(auto)]
 
-// What a code's text is: so many pairs, or its first fault. The counts of the pairs stand in an array beside.
+// What a code's text is: so many pairs, or its first fault. The counts of the pairs stand in an array beside. It stays an enum of its own and is
+// no Result: document 01 names a read code as one whose cases carry the number of the pairs, or of the fault.
 #[derive(Clone, Copy, PartialEq, Eq)]
 pub enum Code {
     Fault(u64),

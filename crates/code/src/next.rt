@@ -4,13 +4,7 @@ ghost use Rattle.code.specs.Next.{is_letter, count_at, off_at, after_on, is_full
 
 use crate::Code;
 use text::number::Number;
-
-// A count and the place behind it, or none within the limits.
-#[derive(Clone, Copy)]
-pub enum Count {
-    Bad,
-    Good(u16, usize),
-}
+use words::Pair;
 
 // What stands before a place in a code's text: nothing of the code, a spelled pair or a letter.
 #[derive(Clone, Copy)]
@@ -20,69 +14,65 @@ pub enum After {
     Lettering,
 }
 
-// What stands at a place: the text's end, a spelled pair or the letter of such a number, each with the place behind it, or a fault.
+// What stands at a place: the text's end, a spelled pair or the letter of such a number, each with the place behind it.
 #[derive(Clone, Copy)]
 pub enum Next {
     End,
-    Spelled(u16, u16, usize),
+    Spelled(Pair, usize),
     Letter(usize, usize),
-    Fault(u64),
 }
 
+#[tactic(auto, unfolding(crate::specs::Next::is_letter))]
 pub fn is_letter(b: u8) -> bool
     ensures { result ≡ is_letter b }
 {
-    if b < b'A' {
-        return false;
-    }
-    b <= b'Z'
+    b.is_ascii_uppercase()
 }
 
-// A number that is a legal count.
-fn count_at(freq: u64, s: &[u8], at: usize) -> Count
+// A number that is a legal count, and the place behind it.
+#[tactic(auto, unfolding(crate::specs::Next::count_at, crate::specs::Limits::legal))]
+fn count_at(freq: u64, s: &[u8], at: usize) -> Option<(u16, usize)>
     ensures { result ≡ count_at freq s.now at }
 {
     match text::number::number_at(s, at) {
-        Number::Missing => Count::Bad,
-        Number::TooLong(_) => Count::Bad,
-        Number::Value(value, next) => {
-            if crate::limits::is_legal(freq, value) {
-                Count::Good(value as u16, next)
-            } else {
-                Count::Bad
-            }
-        }
+        Number::Value(value, next) if crate::limits::is_legal(freq, value) => Some((
+            value as u16,
+            next,
+        )),
+        _ => None,
     }
 }
 
 // The off count, behind its comma.
-fn off_at(freq: u64, on: u16, s: &[u8], at: usize) -> Next
+#[tactic(auto, unfolding(crate::specs::Next::off_at))]
+fn off_at(freq: u64, on: u16, s: &[u8], at: usize) -> Result<Next, u64>
     ensures { result ≡ off_at freq on s.now at }
 {
     if is_letter(text::field::byte_at(s, at)) {
-        return Next::Fault(21);
+        return Err(21);
     }
-    match count_at(freq, s, at) {
-        Count::Bad => Next::Fault(9),
-        Count::Good(off, next) => Next::Spelled(on, off, next),
-    }
+    let Some((off, next)) = count_at(freq, s, at) else {
+        return Err(9);
+    };
+    Ok(Next::Spelled(Pair { on, off }, next))
 }
 
 // What follows an on count.
-fn after_on(freq: u64, on: u16, s: &[u8], at: usize) -> Next
+#[tactic(auto, unfolding(crate::specs::Next::after_on))]
+fn after_on(freq: u64, on: u16, s: &[u8], at: usize) -> Result<Next, u64>
     ensures { result ≡ after_on freq on s.now at }
 {
     if s.len() <= at {
-        return Next::Fault(10);
+        return Err(10);
     }
     let b = s[at];
     if is_letter(b) {
-        return Next::Fault(21);
+        return Err(21);
     }
     if b == b',' {
         off_at(freq, on, s, at + 1)
     } else {
-        Next::Fault(9)
+        Err(9)
     }
 }
 
@@ -94,66 +84,73 @@ fn is_full(pairs: usize) -> bool
 }
 
 // A pair that a digit begins, behind so many.
-fn spelled_at(freq: u64, pairs: usize, s: &[u8], at: usize) -> Next
+#[tactic(auto, unfolding(crate::specs::Next::spelled_at))]
+fn spelled_at(freq: u64, pairs: usize, s: &[u8], at: usize) -> Result<Next, u64>
     ensures { result ≡ spelled_at freq pairs s.now at }
 {
     if is_full(pairs) {
-        return Next::Fault(20);
+        return Err(20);
     }
-    match count_at(freq, s, at) {
-        Count::Bad => Next::Fault(9),
-        Count::Good(on, next) => after_on(freq, on, s, next),
-    }
+    let Some((on, next)) = count_at(freq, s, at) else {
+        return Err(9);
+    };
+    after_on(freq, on, s, next)
 }
 
 // The number of a letter, 0 for A; a byte before A counts as A.
 fn letter_number(b: u8) -> usize
     ensures { result ≡ b - 65 }
 {
-    if b < b'A' {
-        return 0;
-    }
-    (b - b'A') as usize
+    usize::from(b.saturating_sub(b'A'))
 }
 
 // A pair that the letter b begins, behind so many, where so many letters have a pair.
-fn letter_at(pairs: usize, letters: usize, b: u8, next: usize) -> Next
+#[tactic(auto, unfolding(crate::specs::Next::letter_at))]
+fn letter_at(pairs: usize, letters: usize, b: u8, next: usize) -> Result<Next, u64>
     ensures { result ≡ letter_at pairs letters b next }
 {
     if is_full(pairs) {
-        return Next::Fault(20);
+        return Err(20);
     }
     let i = letter_number(b);
     if i < letters {
-        Next::Letter(i, next)
+        Ok(Next::Letter(i, next))
     } else {
-        Next::Fault(22)
+        Err(22)
     }
 }
 
 // A pair that may only be spelled.
-fn begun_at(freq: u64, pairs: usize, s: &[u8], at: usize) -> Next
+#[tactic(auto, unfolding(crate::specs::Next::begun_at))]
+fn begun_at(freq: u64, pairs: usize, s: &[u8], at: usize) -> Result<Next, u64>
     ensures { result ≡ begun_at freq pairs s.now at }
 {
     if text::number::is_digit(text::field::byte_at(s, at)) {
         spelled_at(freq, pairs, s, at)
     } else {
-        Next::Fault(9)
+        Err(9)
     }
 }
 
-fn at_end(after: After) -> Next
+fn at_end(after: After) -> Result<Next, u64>
     ensures { result ≡ at_end after }
 {
     match after {
-        After::Nothing => Next::Fault(9),
-        After::Spelling => Next::End,
-        After::Lettering => Next::End,
+        After::Nothing => Err(9),
+        After::Spelling | After::Lettering => Ok(Next::End),
     }
 }
 
-// What stands at a place of a code's text, behind so many pairs, where so many letters have a pair.
-pub fn next_pair(freq: u64, pairs: usize, letters: usize, after: After, s: &[u8], at: usize) -> Next
+// What stands at a place of a code's text, behind so many pairs, where so many letters have a pair; or the fault there.
+#[tactic(auto, unfolding(crate::specs::Next::next_pair))]
+pub fn next_pair(
+    freq: u64,
+    pairs: usize,
+    letters: usize,
+    after: After,
+    s: &[u8],
+    at: usize,
+) -> Result<Next, u64>
     ensures { result ≡ next_pair freq pairs letters after s.now at }
 {
     if s.len() <= at {
@@ -165,12 +162,8 @@ pub fn next_pair(freq: u64, pairs: usize, letters: usize, after: After, s: &[u8]
     }
     let begin = match after {
         After::Nothing => at,
-        After::Spelling => {
-            if b != b',' {
-                return Next::Fault(9);
-            }
-            at + 1
-        }
+        After::Spelling if b == b',' => at + 1,
+        After::Spelling => return Err(9),
         After::Lettering => at,
     };
     begun_at(freq, pairs, s, begin)

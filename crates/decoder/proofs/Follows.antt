@@ -8,6 +8,7 @@ use native.Mathlib.Numerals.{add-one}
 use native.Mathlib.Omega.{arith}
 use borrow.Author.Tests.{lt-ltb, lt-leb, ltb-true, ltb-false}
 use lib.Dec.{ltb}
+use Rattle.std.specs.Prelude.{Result, Ok}
 use lib.ListN.{length, drop, get_or, length-append, drop_of_length-le, get_or-append}
 use lib.Seq.{sets, length-sets, sets-eq, drop-cons}
 use Rattle.laws.proofs.Choice.{by_test}
@@ -27,12 +28,12 @@ use Rattle.code.proofs.Lettering.{letters_more, learnt_again}
 use Rattle.code.proofs.Nexts.{Sound, next_sound}
 
 -- what stands next is within the limits
-next_found : (freq : ℕ) (s : List ℕ) (t : List Pair) (count at : ℕ) (after : After) {x : Next} → next_pair freq count (length t) after s at ≡ x
+next_found : (freq : ℕ) (s : List ℕ) (t : List Pair) (count at : ℕ) (after : After) {x : Result Next ℕ} → next_pair freq count (length t) after s at ≡ x
     → Sound freq count (length t) after x
 next_found freq s t count at after e = subst (Sound freq count (length t) after) e (next_sound freq count (length t) after s at)
 
 -- one turn of the definition
-pub turn : (freq : ℕ) (s : List ℕ) (t : List Pair) (count at : ℕ) (after : After) {x : Next} → next_pair freq count (length t) after s at ≡ x
+pub turn : (freq : ℕ) (s : List ℕ) (t : List Pair) (count at : ℕ) (after : After) {x : Result Next ℕ} → next_pair freq count (length t) after s at ≡ x
     → count ≤ 260 → (ps : List Pair) → length ps ≡ count
     → read_from (261 - count) freq s ps t after at ≡ read_on (read_from (261 - (count + 1)) freq s) ps t x
 turn freq s t count at after e h ps l =
@@ -75,13 +76,13 @@ module _ {freq : ℕ} {s : List ℕ} where
 
   module _ {t : List Pair} {counts counts' : List ℕ} {count at next : ℕ} {after : After} where
     -- a spelled pair
-    pub follows_spelled : {on off : ℕ} → next_pair freq count (length t) after s at ≡ Spelled on off next
-        → length counts ≡ 520 → counts' ≡ sets counts (2 * count) (counts_of (pair on off ∷ []))
-        → Follows freq s t (learnt t (pair on off)) counts counts' count at (count + 1) next after Spelling
-    follows_spelled {on} {off} e l k =
+    pub follows_spelled : {p : Pair} → next_pair freq count (length t) after s at ≡ Ok (Spelled p next)
+        → length counts ≡ 520 → counts' ≡ sets counts (2 * count) (counts_of (p ∷ []))
+        → Follows freq s t (learnt t p) counts counts' count at (count + 1) next after Spelling
+    follows_spelled {p} e l k =
         let h = (next_found freq s t count at after e).0 in
         record {
-          more = pair on off ∷ [];
+          more = p ∷ [];
           counted = omega arith;
           room = λ r. omega arith;
           size = λ r. l;
@@ -91,7 +92,7 @@ module _ {freq : ℕ} {s : List ℕ} where
         }
 
     -- a letter stands for the pair that has it, which gets no other
-    pub follows_letter : {i : ℕ} → next_pair freq count (length t) after s at ≡ Letter i next
+    pub follows_letter : {i : ℕ} → next_pair freq count (length t) after s at ≡ Ok (Letter i next)
         → length counts ≡ 520 → counts' ≡ sets counts (2 * count) (counts_of (get_or t i (pair 0 0) ∷ []))
         → Follows freq s t t counts counts' count at (count + 1) next after Lettering
     follows_letter {i} e l k =
@@ -108,7 +109,7 @@ module _ {freq : ℕ} {s : List ℕ} where
 
 -- ---- a run of letters, each a byte and a pair
 letter_next : (freq n m : ℕ) (s : List ℕ) (at : ℕ) → at < length s → is_letter (get_or s at 0) ≡ true → n < 260 → get_or s at 0 - 65 < m
-    → next_pair freq n m Lettering s at ≡ Letter (get_or s at 0 - 65) (at + 1)
+    → next_pair freq n m Lettering s at ≡ Ok (Letter (get_or s at 0 - 65) (at + 1))
 unfolding next_pair letter_at
 letter_next freq n m s at h l r k = rw (lt-leb (length s) at h, l, lt-leb 260 n r, lt-ltb (get_or s at 0 - 65) m k)
 

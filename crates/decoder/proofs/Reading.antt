@@ -6,6 +6,7 @@ use mathlib.Core.List.{List, [], ◌∷◌}
 use native.Mathlib.Omega.{arith}
 use borrow.Author.Tests.{ltb-true, ltb-false}
 use lib.Dec.{ltb}
+use Rattle.std.specs.Prelude.{Result, Ok, Err}
 use lib.ListN.{length, take, drop, get_or, take-append-drop}
 use lib.Seq.{sets, length-sets, take_all, take-append-le, get_or-take}
 use Rattle.laws.proofs.Choice.{by_test, not_both}
@@ -18,7 +19,7 @@ use Rattle.words.proofs.Pairs.{counts_stored}
 use Rattle.code.specs.declared.Code.TheVariants as code
 use Rattle.code.specs.declared.letters.Letters.{Letters}
 use Rattle.code.specs.declared.next.Next.{Next}
-use Rattle.code.specs.declared.next.Next.TheVariants.{End, Spelled, Letter, Fault}
+use Rattle.code.specs.declared.next.Next.TheVariants.{End, Spelled, Letter}
 use Rattle.code.specs.declared.next.After.{After}
 use Rattle.code.specs.declared.next.After.TheVariants.{Nothing, Spelling, Lettering}
 use Rattle.code.specs.Letters.{no_letters, letters_of, held, Kept}
@@ -82,7 +83,7 @@ module _ {freq : ℕ} {s : List ℕ} {start : ℕ} {before counts : List ℕ} {l
     seen_all l = ltb-false seen count (rw l at up)
 
     -- what stands next is what the definition finds
-    module _ {x : Next} (e : next_pair freq count letters.count after s at ≡ x) where
+    module _ {x : Result Next ℕ} (e : next_pair freq count letters.count after s at ≡ x) where
       stands : next_pair freq count (length g.known) after s at ≡ x
       stands =
           by_test (is_letter (get_or s at 0))
@@ -92,14 +93,14 @@ module _ {freq : ℕ} {s : List ℕ} {start : ℕ} {before counts : List ℕ} {l
       pub going_sound : Sound freq count letters.count after x
       going_sound = subst (Sound freq count letters.count after) e (next_sound freq count letters.count after s at)
 
-    pub going_end : next_pair freq count letters.count after s at ≡ End → ReadInto (read_code freq s start) before (code.Pairs count) counts
+    pub going_end : next_pair freq count letters.count after s at ≡ Ok End → ReadInto (read_code freq s start) before (code.Pairs count) counts
     unfolding read_code
     going_end e =
         let read : read_code freq s start ≡ pairs g.follows.more =
         g.follows.same [] refl ∙ turn freq s g.known count at after (stands e) going_room g.follows.more long in
         record { result = rw (read, long); kept = rw read (g.follows.stored ∙ stores_stored before 0 (counts_of g.follows.more)); front = rw read front }
 
-    pub going_fault : {k : ℕ} → next_pair freq count letters.count after s at ≡ Fault k
+    pub going_fault : {k : ℕ} → next_pair freq count letters.count after s at ≡ Err k
         → ReadInto (read_code freq s start) before (code.Fault k) counts
     unfolding read_code
     going_fault {k} e =
@@ -108,18 +109,18 @@ module _ {freq : ℕ} {s : List ℕ} {start : ℕ} {before counts : List ℕ} {l
         record { result = rw read; kept = rw read (g.follows.stored ∙ stores_stored before 0 (counts_of g.follows.more)); front = rw read front }
 
     -- a letter is found only where one stands
-    letter_stands : {i next : ℕ} → next_pair freq count letters.count after s at ≡ Letter i next → is_letter (get_or s at 0) ≡ true
+    letter_stands : {i next : ℕ} → next_pair freq count letters.count after s at ≡ Ok (Letter i next) → is_letter (get_or s at 0) ≡ true
     letter_stands {i} {next} e =
         by_test (is_letter (get_or s at 0)) (λ l. l)
         (λ l.
-        let none : next_pair freq count 0 after s at ≡ Letter i next = next_unlettered freq count 0 letters.count after s at l ∙ e in
+        let none : next_pair freq count 0 after s at ≡ Ok (Letter i next) = next_unlettered freq count 0 letters.count after s at l ∙ e in
         let sound = subst (Sound freq count 0 after) none (next_sound freq count 0 after s at) in
         absurd (omega (arith, sound.1)))
 
     module _ {counts₁ counts₂ : List ℕ} {far to : ℕ} where
       -- a spelled pair, and those that the quick reader finds behind it
-      pub going_spelled : {on off next : ℕ} → next_pair freq count letters.count after s at ≡ Spelled on off next
-          → length counts ≡ 520 → counts₁ ≡ sets counts (2 * count) (counts_of (pair on off ∷ []))
+      pub going_spelled : {p : Pair} {next : ℕ} → next_pair freq count letters.count after s at ≡ Ok (Spelled p next)
+          → length counts ≡ 520 → counts₁ ≡ sets counts (2 * count) (counts_of (p ∷ []))
           → ((t : List Pair) → (t' : List Pair) × Follows freq s t t' counts₁ counts₂ (count + 1) next far to Spelling Spelling)
           → Going freq s start before counts₂ letters seen far to Spelling
       going_spelled e l k run =
@@ -139,7 +140,7 @@ module _ {freq : ℕ} {s : List ℕ} {start : ℕ} {before counts : List ℕ} {l
           }
 
       -- letters
-      pub going_letter : {i next : ℕ} → next_pair freq count letters.count after s at ≡ Letter i next
+      pub going_letter : {i next : ℕ} → next_pair freq count letters.count after s at ≡ Ok (Letter i next)
           → length counts ≡ 520 → counts₁ ≡ sets counts (2 * count) (counts_of (get_or letters.pairs i (pair 0 0) ∷ []))
           → ((f : ℕ) → Follows f s (held letters) (held letters) counts₁ counts₂ (count + 1) next far to Lettering Lettering)
           → Going freq s start before counts₂ letters far far to Lettering
@@ -149,7 +150,7 @@ module _ {freq : ℕ} {s : List ℕ} {start : ℕ} {before counts : List ℕ} {l
           let first = subst (λ (t : List Pair). Follows freq s [] t before counts 0 start count at Nothing after) (sym know) g.follows in
           let is : get_or (held letters) i (pair 0 0) ≡ get_or letters.pairs i (pair 0 0) =
           get_or-take letters.count letters.pairs i (pair 0 0) (going_sound e).1 in
-          let here : next_pair freq count (length (held letters)) after s at ≡ Letter i next = rw g.counted e in
+          let here : next_pair freq count (length (held letters)) after s at ≡ Ok (Letter i next) = rw g.counted e in
           let put : counts₁ ≡ sets counts (2 * count) (counts_of (get_or (held letters) i (pair 0 0) ∷ [])) = rw is k in
           let one = follows_letter here size put in
           let all = follows_then first (follows_then one (run freq)) in

@@ -3,11 +3,12 @@ use Prim.Native.Nat.{ℕ, zero, suc}
 use mathlib.Core.Path.{◌≡◌, refl, sym, ◌∙◌}
 use mathlib.Core.List.{List, [], ◌∷◌, ◌++◌, append-nil}
 use native.Mathlib.Omega.{arith}
+use Rattle.std.specs.Prelude.{Result, Ok, Err}
 use lib.ListN.{drop, get_or}
 use lib.Seq.{append_snoc}
 use Rattle.words.specs.declared.Pair.{Pair}
 use Rattle.code.specs.declared.next.Next.{Next}
-use Rattle.code.specs.declared.next.Next.TheVariants.{End, Spelled, Letter, Fault}
+use Rattle.code.specs.declared.next.Next.TheVariants.{End, Spelled, Letter}
 use Rattle.code.specs.declared.next.After.{After}
 use Rattle.code.specs.declared.next.After.TheVariants.{Nothing, Spelling, Lettering}
 use Rattle.words.specs.Pairs.{pair}
@@ -38,7 +39,7 @@ record Whole (freq : ℕ) (s : List ℕ) (before : List Pair) (after : After) (a
 module _ (freq : ℕ) (s : List ℕ) {ps : List Pair} where
   whole : (k : ℕ) (before : List Pair) (after : After) (at : ℕ) → read_from k freq s before (lettered before) after at ≡ pairs ps
       → Whole freq s before after at ps
-  whole zero before after at e = let z : ◌≡◌ {A = ℕ} 0 1 = cc in absurd (omega arith)
+  whole zero before after at e = absurd (cc)
   whole (suc k) before after at e = go (next_behind freq s before after at) refl (whole k) e
     where
       one_more : {p : Pair} {x : After} {next : ℕ} (w : Whole freq s (before ++ (p ∷ [])) x next ps)
@@ -52,11 +53,11 @@ module _ (freq : ℕ) (s : List ℕ) {ps : List Pair} where
             parsed = q;
           }
 
-      go : (x : Next) → next_behind freq s before after at ≡ x
+      go : (x : Result Next ℕ) → next_behind freq s before after at ≡ x
           → ((before : List Pair) (after : After) (at : ℕ) → read_from k freq s before (lettered before) after at ≡ pairs ps
           → Whole freq s before after at ps)
           → read_on (read_from k freq s) before (lettered before) x ≡ pairs ps → Whole freq s before after at ps
-      go End h ih e =
+      go (Ok End) h ih e =
           let all_are : before ≡ ps = cc in
           record {
             others = [];
@@ -65,16 +66,15 @@ module _ (freq : ℕ) (s : List ℕ) {ps : List Pair} where
             over = shown freq s before after at h;
             parsed = none_parsed;
           }
-      go (Spelled on off next) h ih e =
-          let p = pair on off in
+      go (Ok (Spelled p next)) h ih e =
           let w = ih (before ++ (p ∷ [])) Spelling next (rw (lettered_more before p) e) in
           one_more w (spelled_parsed freq s h w.parsed)
-      go (Letter i next) h ih e =
+      go (Ok (Letter i next)) h ih e =
           let p = get_or (lettered before) i (pair 0 0) in
           let known = learnt_again (lettered before) i (sound freq s before after at h).1 in
           let w = ih (before ++ (p ∷ [])) Lettering next (rw (lettered_more before p, known) e) in
           one_more w (letter_parsed freq s h w.parsed)
-      go (Fault number) h ih e = let z : ◌≡◌ {A = ℕ} 0 1 = cc in absurd (omega arith)
+      go (Err number) h ih e = absurd (cc)
 
 pub read_means : {freq : ℕ} {ps : List Pair} (s : List ℕ) (at : ℕ) → read_code freq s at ≡ pairs ps → Means freq (drop at s) ps
 unfolding read_code

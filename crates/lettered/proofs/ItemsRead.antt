@@ -6,6 +6,7 @@ use mathlib.Core.List.{List, [], ◌∷◌, ◌++◌, append_assoc, append-nil}
 use native.Mathlib.Nat.{add-zero, add-sub_cancel_left}
 use native.Mathlib.Omega.{arith}
 use borrow.Author.Tests.{lt-ltb, le-ltb, le-leb, lt-leb}
+use Rattle.std.specs.Prelude.{Some, Result, Ok}
 use lib.ListN.{length, drop, get_or, length-append}
 use lib.Seq.{append_snoc}
 use Rattle.laws.proofs.Choice.{and_left, and_right}
@@ -15,7 +16,6 @@ use Rattle.text.specs.Number.{run}
 use Rattle.text.proofs.Reading.{digit_range}
 use Rattle.text.proofs.Behind.{digits_first, digits_below, digits_read}
 use Rattle.words.specs.declared.Pair.{Pair}
-use Rattle.code.specs.declared.next.Count.TheVariants.{Good}
 use Rattle.code.specs.declared.next.Next.{Next}
 use Rattle.code.specs.declared.next.Next.TheVariants.{End, Spelled, Letter}
 use Rattle.code.specs.declared.next.After.{After}
@@ -41,14 +41,14 @@ module _ (s : List ℕ) (at : ℕ) (ds : List ℕ) (n : ℕ) (rest : List ℕ) (
   number_below : at < length s
   number_below = digits_below s at ds rest d.decimal d.some e
 
-  count_good : (freq : ℕ) → legal freq n ≡ true → run rest ≡ [] → count_at freq s at ≡ Good n (at + length ds)
+  count_good : (freq : ℕ) → legal freq n ≡ true → run rest ≡ [] → count_at freq s at ≡ Some (n, at + length ds)
   unfolding count_at
   count_good freq h stop = rw (digits_read s at ds rest d.decimal d.some e d.few stop, d.value, h)
 
 -- ---- an item
 module _ (freq : ℕ) (s : List ℕ) (n : ℕ) (room : n < 260) where
   letter_next : (m i at : ℕ) (after : After) (rest : List ℕ) → i < m → m ≤ 15 → drop at s ≡ (65 + i) ∷ rest
-      → next_pair freq n m after s at ≡ Letter i (at + 1)
+      → next_pair freq n m after s at ≡ Ok (Letter i (at + 1))
   unfolding next_pair letter_at is_letter
   letter_next m i at after rest h few e =
       rw (
@@ -63,7 +63,7 @@ module _ (freq : ℕ) (s : List ℕ) (n : ℕ) (room : n < 260) where
 
   module _ (on off : List ℕ) (p : Pair) (rest : List ℕ) (d : Stands freq [] (spelled on off) p) (stop : run rest ≡ []) where
     begun_next : (at : ℕ) → drop at s ≡ on ++ (44 ∷ (off ++ rest))
-        → begun_at freq n s at ≡ Spelled p.on p.off (at + length on + 1 + length off)
+        → begun_at freq n s at ≡ Ok (Spelled p (at + length on + 1 + length off))
     unfolding begun_at spelled_at after_on off_at is_letter
     begun_next at e =
         let c = stands_behind s at on (44 ∷ (off ++ rest)) e in
@@ -79,7 +79,7 @@ module _ (freq : ℕ) (s : List ℕ) (n : ℕ) (room : n < 260) where
         )
 
     -- no letter and no comma in front
-    first_next : (m at : ℕ) (after : After) {x : Next} → drop at s ≡ on ++ (44 ∷ (off ++ rest)) → begins freq n after s at ≡ x
+    first_next : (m at : ℕ) (after : After) {x : Result Next ℕ} → drop at s ≡ on ++ (44 ∷ (off ++ rest)) → begins freq n after s at ≡ x
         → next_pair freq n m after s at ≡ x
     unfolding next_pair
     first_next m at after e f =
@@ -90,7 +90,7 @@ module _ (freq : ℕ) (s : List ℕ) (n : ℕ) (room : n < 260) where
 
     spelled_next : (m at : ℕ) (after : After) → drop at s ≡ front after (spelled on off) ++ (on ++ (44 ∷ (off ++ rest)))
         → next_pair freq n m after s at
-        ≡ Spelled p.on p.off (at + length (front after (spelled on off)) + length on + 1 + length off)
+        ≡ Ok (Spelled p (at + length (front after (spelled on off)) + length on + 1 + length off))
     unfolding next_pair is_letter
     spelled_next m at Nothing e = rw add-zero (first_next m at Nothing e (begun_next at e))
     spelled_next m at Spelling e =
@@ -99,7 +99,7 @@ module _ (freq : ℕ) (s : List ℕ) (n : ℕ) (room : n < 260) where
     spelled_next m at Lettering e = rw add-zero (first_next m at Lettering e (begun_next at e))
 
 -- the end
-end_next : (freq n m : ℕ) (after : After) (s : List ℕ) (at : ℕ) → Ends after → drop at s ≡ [] → next_pair freq n m after s at ≡ End
+end_next : (freq n m : ℕ) (after : After) (s : List ℕ) (at : ℕ) → Ends after → drop at s ≡ [] → next_pair freq n m after s at ≡ Ok End
 unfolding next_pair
 end_next freq n m Nothing s at z e = absurd z
 end_next freq n m Spelling s at z e = rw (le-leb (length s) at (stands_end s at e))

@@ -3,8 +3,8 @@ use Prim.Native.Nat.{ℕ, ◌+◌}
 use mathlib.Core.Path.{◌≡◌, refl, sym, ap, ◌∙◌, subst}
 use mathlib.Core.List.{List, [], ◌∷◌, ◌++◌, append_assoc}
 use native.Mathlib.Omega.{arith}
+use Rattle.std.specs.Prelude.{Result, Ok}
 use lib.ListN.{length, drop, get_or, length-append}
-use Rattle.laws.proofs.Choice.{and_true}
 use Rattle.words.specs.declared.Pair.{Pair}
 use Rattle.code.specs.declared.next.Next.{Next}
 use Rattle.code.specs.declared.next.Next.TheVariants.{Spelled, Letter}
@@ -28,10 +28,10 @@ pub none_parsed : {freq : ℕ} {s : List ℕ} {before : List Pair} {after : Afte
 none_parsed = record { items = []; expands = none; text = refl; place = omega arith }
 
 -- what stands next behind the pairs before
-abbrev pub next_behind : ℕ → List ℕ → List Pair → After → ℕ → Next
+abbrev pub next_behind : ℕ → List ℕ → List Pair → After → ℕ → Result Next ℕ
 next_behind freq s before after at = next_pair freq (length before) (length (lettered before)) after s at
 
-module _ (freq : ℕ) (s : List ℕ) (before : List Pair) (after : After) (at : ℕ) {x : Next} (e : next_behind freq s before after at ≡ x) where
+module _ (freq : ℕ) (s : List ℕ) (before : List Pair) (after : After) (at : ℕ) {x : Result Next ℕ} (e : next_behind freq s before after at ≡ x) where
   pub sound : Sound freq (length before) (length (lettered before)) after x
   sound =
       subst (Sound freq (length before) (length (lettered before)) after) e
@@ -54,14 +54,14 @@ module _ (freq : ℕ) (s : List ℕ) {before ps : List Pair} {after : After} {at
         place = rw (length-append (front after x ++ item_text x) (text_from (after_of x) q.items)) (omega (arith, q.place));
       }
 
-  pub spelled_parsed : {on off : ℕ} → next_behind freq s before after at ≡ Spelled on off next
-      → Parsed freq s (before ++ (pair on off ∷ [])) Spelling next ps to → Parsed freq s before after at (pair on off ∷ ps) to
-  spelled_parsed {on} {off} e q =
+  pub spelled_parsed : {p : Pair} → next_behind freq s before after at ≡ Ok (Spelled p next)
+      → Parsed freq s (before ++ (p ∷ [])) Spelling next ps to → Parsed freq s before after at (p ∷ ps) to
+  spelled_parsed {p} e q =
       let h = sound freq s before after at e in
       let t = shown freq s before after at e in
-      item_parsed (spelled t.first t.second) (pair on off) (t.on_is, t.off_is, and_true _ _ h.1 h.2) t.text t.place q
+      item_parsed (spelled t.first t.second) p (t.on_is, t.off_is, h.1) t.text t.place q
 
-  pub letter_parsed : {i : ℕ} → next_behind freq s before after at ≡ Letter i next
+  pub letter_parsed : {i : ℕ} → next_behind freq s before after at ≡ Ok (Letter i next)
       → Parsed freq s (before ++ (get_or (lettered before) i (pair 0 0) ∷ [])) Lettering next ps to
       → Parsed freq s before after at (get_or (lettered before) i (pair 0 0) ∷ ps) to
   letter_parsed {i} e q =

@@ -6,6 +6,7 @@ use mathlib.Core.List.{List, [], ◌∷◌, ◌++◌, append_assoc}
 use native.Mathlib.Omega.{arith}
 use borrow.Author.Tests.{ltb-false, leb-true, leb-false, eqb-true, eqb-false}
 use lib.Dec.{ltb, leb, eqb}
+use Rattle.std.specs.Prelude.{Option, Some, None, Result, Ok, Err}
 use lib.ListN.{length, drop, get_or, length-append, drop_of_length-le}
 use lib.Seq.{drop-drop}
 use Rattle.laws.specs.Lists.{all}
@@ -15,10 +16,8 @@ use Rattle.words.specs.Digits.{is_digit, worth, Spells}
 use Rattle.text.specs.Number.{run, number_of, number_at}
 use Rattle.text.specs.declared.number.Number.{Number}
 use Rattle.text.specs.declared.number.Number.TheVariants.{Missing, TooLong, Value}
-use Rattle.code.specs.declared.next.Count.{Count}
-use Rattle.code.specs.declared.next.Count.TheVariants.{Bad, Good}
 use Rattle.code.specs.declared.next.Next.{Next}
-use Rattle.code.specs.declared.next.Next.TheVariants.{End, Spelled, Letter, Fault}
+use Rattle.code.specs.declared.next.Next.TheVariants.{End, Spelled, Letter}
 use Rattle.code.specs.declared.next.After.{After}
 use Rattle.code.specs.declared.next.After.TheVariants.{Nothing, Spelling, Lettering}
 use Rattle.code.specs.Limits.{legal}
@@ -54,22 +53,22 @@ pub record Spelt (after : After) (s : List ℕ) (at on off next : ℕ) : Type 0 
   pub text : drop at s ≡ front after (spelled first second) ++ item_text (spelled first second) ++ drop next s
   pub place : next ≡ at + length (front after (spelled first second) ++ item_text (spelled first second))
 
-abbrev pub Shown : After → List ℕ → ℕ → Next → Type 0
-Shown after s at End = drop at s ≡ []
-Shown after s at (Spelled on off next) = Spelt after s at on off next
-Shown after s at (Letter i next) = (drop at s ≡ (65 + i) ∷ drop next s) × (next ≡ at + 1)
-Shown after s at (Fault number) = Unit {0}
+abbrev pub Shown : After → List ℕ → ℕ → Result Next ℕ → Type 0
+Shown after s at (Ok End) = drop at s ≡ []
+Shown after s at (Ok (Spelled p next)) = Spelt after s at p.on p.off next
+Shown after s at (Ok (Letter i next)) = (drop at s ≡ (65 + i) ∷ drop next s) × (next ≡ at + 1)
+Shown after s at (Err number) = Unit {0}
 
 -- where a pair must be spelled
-abbrev ShownPair : List ℕ → ℕ → Next → Type 0
-ShownPair s at End = ⊥
-ShownPair s at (Spelled on off next) = Spelt Nothing s at on off next
-ShownPair s at (Letter i next) = ⊥
-ShownPair s at (Fault number) = Unit {0}
+abbrev ShownPair : List ℕ → ℕ → Result Next ℕ → Type 0
+ShownPair s at (Ok End) = ⊥
+ShownPair s at (Ok (Spelled p next)) = Spelt Nothing s at p.on p.off next
+ShownPair s at (Ok (Letter i next)) = ⊥
+ShownPair s at (Err number) = Unit {0}
 
-abbrev ShownCount : List ℕ → ℕ → Count → Type 0
-ShownCount s at Bad = Unit {0}
-ShownCount s at (Good v next) = Digits s at v next
+abbrev ShownCount : List ℕ → ℕ → Option (ℕ × ℕ) → Type 0
+ShownCount s at None = Unit {0}
+ShownCount s at (Some (v, next)) = Digits s at v next
 
 module _ (freq : ℕ) (s : List ℕ) where
   count_shown : (at : ℕ) → ShownCount s at (count_at freq s at)
@@ -80,7 +79,7 @@ module _ (freq : ℕ) (s : List ℕ) where
       let P : Number → Type 0 = λ x. ShownCount s at (judged freq x) in
       cond_case P (eqb (length ds) 0) Missing _ (λ e. tt)
       (λ e. cond_case P (ltb 6 (length ds)) (TooLong next) (Value (worth 0 ds) next) (λ m. tt)
-      (λ m. cond_case (ShownCount s at) (legal freq (worth 0 ds)) (Good (worth 0 ds) next) Bad
+      (λ m. cond_case (ShownCount s at) (legal freq (worth 0 ds)) (Some (worth 0 ds, next)) None
       (λ l.
       let ne : length ds ≡ 0 → ⊥ = eqb-false (length ds) 0 e in
       record {
@@ -103,9 +102,9 @@ module _ (freq : ℕ) (s : List ℕ) where
       cond_case (ShownPair s at) (is_letter (get_or s (next + 1) 0)) _ _ (λ e. tt)
       (λ e. go (count_at freq s (next + 1)) (count_shown (next + 1)))
     where
-      go : (x : Count) → ShownCount s (next + 1) x → ShownPair s at (paired on x)
-      go Bad k = tt
-      go (Good v last) k =
+      go : (x : Option (ℕ × ℕ)) → ShownCount s (next + 1) x → ShownPair s at (paired on x)
+      go None k = tt
+      go (Some (v, last)) k =
           record {
             first = d.digits;
             second = k.digits;
@@ -131,15 +130,15 @@ module _ (freq : ℕ) (s : List ℕ) where
       (λ e. cond_case (ShownPair s at) (leb 260 n) _ _ (λ f. tt) (λ f. go (count_at freq s at) (count_shown at)))
       (λ e. tt)
     where
-      go : (x : Count) → ShownCount s at x → ShownPair s at (counted freq s x)
-      go Bad k = tt
-      go (Good v next) k = after_shown k
+      go : (x : Option (ℕ × ℕ)) → ShownCount s at x → ShownPair s at (counted freq s x)
+      go None k = tt
+      go (Some (v, next)) k = after_shown k
 
   -- a pair that is spelled behind what stands in front of it
   fronted : (after : After) (at from : ℕ) → ((on off : List ℕ) → drop at s ≡ front after (spelled on off) ++ drop from s)
-      → ((on off : List ℕ) → from ≡ at + length (front after (spelled on off))) → (x : Next) → ShownPair s from x → Shown after s at x
-  fronted after at from e f End k = absurd k
-  fronted after at from e f (Spelled on off next) k =
+      → ((on off : List ℕ) → from ≡ at + length (front after (spelled on off))) → (x : Result Next ℕ) → ShownPair s from x → Shown after s at x
+  fronted after at from e f (Ok End) k = absurd k
+  fronted after at from e f (Ok (Spelled p next)) k =
       record {
         first = k.first;
         second = k.second;
@@ -152,8 +151,8 @@ module _ (freq : ℕ) (s : List ℕ) where
             rw (length-append (front after (spelled k.first k.second)) (item_text (spelled k.first k.second)))
             (omega (arith, k.place, f k.first k.second));
       }
-  fronted after at from e f (Letter i next) k = absurd k
-  fronted after at from e f (Fault number) k = tt
+  fronted after at from e f (Ok (Letter i next)) k = absurd k
+  fronted after at from e f (Err number) k = tt
 
   begins_shown : (n at : ℕ) (after : After) → leb (length s) at ≡ false → Shown after s at (begins freq n after s at)
   begins_shown n at Nothing h = fronted Nothing at at (λ on off. refl) (λ on off. omega arith) (begun_at freq n s at) (begun_shown n at)

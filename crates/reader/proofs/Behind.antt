@@ -3,6 +3,7 @@ use Prim.Native.Nat.{ℕ, ◌+◌, ◌<◌}
 use mathlib.Core.Path.{◌≡◌, refl, sym, ap, ◌∙◌}
 use mathlib.Core.List.{List, [], ◌∷◌, ◌++◌}
 use native.Mathlib.Omega.{arith}
+use Rattle.std.specs.Prelude.{Result}
 use lib.ListN.{length, get_or, length-append}
 use lib.Seq.{get_or-take}
 use Rattle.words.specs.declared.Pair.{Pair}
@@ -28,7 +29,7 @@ behind_none freq = record { count = refl; kept = record { few = omega arith; cou
 
 module _ {t : Progress} {before : List Pair} (b : Behind t before) where
   -- what stands next is what the pairs before say
-  pub next_is : (s : List ℕ) (at : ℕ) {x : Next} → standing t s at ≡ x → next_behind t.freq s before t.after at ≡ x
+  pub next_is : (s : List ℕ) (at : ℕ) {x : Result Next ℕ} → standing t s at ≡ x → next_behind t.freq s before t.after at ≡ x
   next_is s at e = rw (← b.count, ← b.kept.are, b.kept.counted) e
 
   one_more : (p : Pair) → t.count + 1 ≡ length (before ++ (p ∷ []))

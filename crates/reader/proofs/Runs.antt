@@ -3,11 +3,12 @@ use Prim.Native.Nat.{ℕ, zero, suc, ◌+◌, ◌≤◌, ◌<◌}
 use mathlib.Core.Path.{◌≡◌, refl, sym, ap, ◌∙◌, subst}
 use mathlib.Core.List.{List, [], ◌∷◌, ◌++◌, append_assoc, append-nil}
 use native.Mathlib.Omega.{arith}
+use Rattle.std.specs.Prelude.{Result, Ok, Err}
 use lib.ListN.{length, get_or, length-append}
 use Rattle.words.specs.declared.Pair.{Pair}
 use Rattle.code.specs.declared.letters.Letters.{Letters}
 use Rattle.code.specs.declared.next.Next.{Next}
-use Rattle.code.specs.declared.next.Next.TheVariants.{End, Spelled, Letter, Fault}
+use Rattle.code.specs.declared.next.Next.TheVariants.{End, Spelled, Letter}
 use Rattle.code.specs.declared.next.After.{After}
 use Rattle.words.specs.Pairs.{pair}
 use Rattle.code.specs.Read.{Reading, pairs, fault, read_on, read_from, read_code}
@@ -46,7 +47,7 @@ module _ (s : List ℕ) where
       }
 
   -- one turn of the definition
-  turn : (k : ℕ) {t : Progress} (ps : List Pair) (at : ℕ) {x : Next} → Behind t ps → standing t s at ≡ x
+  turn : (k : ℕ) {t : Progress} (ps : List Pair) (at : ℕ) {x : Result Next ℕ} → Behind t ps → standing t s at ≡ x
       → read_from (suc k) t.freq s ps (lettered ps) t.after at ≡ read_on (read_from k t.freq s) ps (lettered ps) x
   turn k {t} ps at b e = ap (read_on (read_from k t.freq s) ps (lettered ps)) (next_is b s at e)
 
@@ -55,20 +56,19 @@ module _ (s : List ℕ) where
   from zero t ps at b l r = absurd (omega arith)
   from (suc k) t ps at b l r = go (standing t s at) refl (from k)
     where
-      go : (x : Next) → standing t s at ≡ x
+      go : (x : Result Next ℕ) → standing t s at ≡ x
           → ((t' : Progress) (ps' : List Pair) (at' : ℕ) → Behind t' ps' → length ps' + k ≡ 261 → length ps' ≤ 260
           → Ran s t' at' ps' (read_from k t'.freq s ps' (lettered ps') t'.after at'))
           → Ran s t at ps (read_from (suc k) t.freq s ps (lettered ps) t.after at)
-      go End e ih = ran_stop end (ends (ap (λ (h : Handed). h.piece) (handed_is t s at e))) (turn k ps at b e)
-      go (Fault number) e ih =
+      go (Ok End) e ih = ran_stop end (ends (ap (λ (h : Handed). h.piece) (handed_is t s at e))) (turn k ps at b e)
+      go (Err number) e ih =
           ran_stop (faulted number) (faults (ap (λ (h : Handed). h.piece) (handed_is t s at e))) (turn k ps at b e)
-      go (Spelled on off next) e ih =
-          let p : Pair = pair on off in
+      go (Ok (Spelled p next)) e ih =
           let room : length ps < 260 = omega (arith, b.count, (standing_sound t s at e).0) in
           let size : length (ps ++ (p ∷ [])) ≡ length ps + 1 = length-append ps (p ∷ []) in
           ran_more (handed_is t s at e)
           (rw (turn k ps at b e, ← lettered_more ps p) (ih _ (ps ++ (p ∷ [])) next (behind_spelled_law b p) (omega arith) (omega arith)))
-      go (Letter i next) e ih =
+      go (Ok (Letter i next)) e ih =
           let known = (standing_sound t s at e).1 in
           let p : Pair = get_or (lettered ps) i (pair 0 0) in
           let room : length ps < 260 = omega (arith, b.count, (standing_sound t s at e).0) in
@@ -81,13 +81,13 @@ module _ (s : List ℕ) where
 pub one_run : {s : List ℕ} {t : Progress} {at : ℕ} {ps qs : List Pair} {e f : Ending} → HandsOut s t at ps e → HandsOut s t at qs f
     → (ps ≡ qs) × (e ≡ f)
 one_run (ends a) (ends b) = (refl, refl)
-one_run (ends a) (faults b) = let z : ◌≡◌ {A = ℕ} 0 1 = cc in absurd (omega arith)
-one_run (ends a) (gives b r) = let z : ◌≡◌ {A = ℕ} 0 1 = cc in absurd (omega arith)
-one_run (faults a) (ends b) = let z : ◌≡◌ {A = ℕ} 0 1 = cc in absurd (omega arith)
+one_run (ends a) (faults b) = absurd (cc)
+one_run (ends a) (gives b r) = absurd (cc)
+one_run (faults a) (ends b) = absurd (cc)
 one_run (faults {number = m} a) (faults {number = n} b) = let k : m ≡ n = cc in (refl, ap faulted k)
-one_run (faults a) (gives b r) = let z : ◌≡◌ {A = ℕ} 0 1 = cc in absurd (omega arith)
-one_run (gives a r) (ends b) = let z : ◌≡◌ {A = ℕ} 0 1 = cc in absurd (omega arith)
-one_run (gives a r) (faults b) = let z : ◌≡◌ {A = ℕ} 0 1 = cc in absurd (omega arith)
+one_run (faults a) (gives b r) = absurd (cc)
+one_run (gives a r) (ends b) = absurd (cc)
+one_run (gives a r) (faults b) = absurd (cc)
 one_run (gives {p = p} a r) (gives {p = q} b r') =
     let k : p ≡ q = cc in
     let m = one_run r r' in
@@ -117,7 +117,7 @@ module _ (freq : ℕ) (s : List ℕ) (at : ℕ) where
     where
       go : (f : Ending) → Hands ran.given f → read_code freq s at ≡ reading_of ran.given f → Hands ps end
       go end r k = let m : ran.given ≡ ps = cc in subst (λ (l : List Pair). Hands l end) m r
-      go (faulted number) r k = let z : ◌≡◌ {A = ℕ} 0 1 = cc in absurd (omega arith)
+      go (faulted number) r k = absurd (cc)
 
   -- the very fault, behind the pairs before it
   pub hands_fault : (number : ℕ) (ps : List Pair) → read_code freq s at ≡ fault number ps
@@ -125,7 +125,7 @@ module _ (freq : ℕ) (s : List ℕ) (at : ℕ) where
   hands_fault number ps e = go ran.ending ran.run ran.reads
     where
       go : (f : Ending) → Hands ran.given f → read_code freq s at ≡ reading_of ran.given f → Hands ps (faulted number)
-      go end r k = let z : ◌≡◌ {A = ℕ} 0 1 = cc in absurd (omega arith)
+      go end r k = absurd (cc)
       go (faulted n) r k =
           let m : n ≡ number = cc in
           let l : ran.given ≡ ps = cc in

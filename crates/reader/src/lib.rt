@@ -26,18 +26,11 @@ pub struct Progress {
     pub after: After,
 }
 
-#[derive(Clone, Copy)]
-pub enum Piece {
-    End,
-    Pair(Pair),
-    Fault(u64),
-}
-
-// A piece, and the place and the progress behind it.
+// A piece, which is a pair, nothing at the end, or a fault; and the place and the progress behind it.
 #[derive(Clone, Copy)]
 pub struct Handed {
     pub at: usize,
-    pub piece: Piece,
+    pub piece: Result<Option<Pair>, u64>,
     pub progress: Progress,
 }
 
@@ -46,11 +39,10 @@ impl Progress {
     pub fn fresh(freq: u64) -> Self
         ensures { result ≡ fresh_progress freq }
     {
-        let letters = Letters::none();
         Progress {
             freq,
             count: 0,
-            letters,
+            letters: Letters::none(),
             after: After::Nothing,
         }
     }
@@ -61,16 +53,15 @@ fn pair_handed(progress: Progress, p: Pair, letters: Letters, after: After, next
     requires { progress.count < most_pairs }
     ensures { result ≡ pair_handed progress p letters after next }
 {
-    let later = Progress {
-        freq: progress.freq,
-        count: progress.count + 1,
-        letters,
-        after,
-    };
     Handed {
         at: next,
-        piece: Piece::Pair(p),
-        progress: later,
+        piece: Ok(Some(p)),
+        progress: Progress {
+            count: progress.count + 1,
+            letters,
+            after,
+            ..progress
+        },
     }
 }
 
@@ -78,9 +69,8 @@ fn pair_handed(progress: Progress, p: Pair, letters: Letters, after: After, next
 fn pair_of(letters: Letters, i: usize) -> Pair
     ensures { result ≡ get_or letters.pairs i (pair 0 0) }
 {
-    let pairs = letters.pairs;
     if i < Code::LETTERS {
-        pairs[i]
+        letters.pairs[i]
     } else {
         Pair { on: 0, off: 0 }
     }
@@ -91,31 +81,29 @@ fn next_from(progress: Progress, text: &[u8], at: usize) -> Handed
     ensures { result ≡ handed progress text.now at }
 {
     let letters = progress.letters;
-    let after = progress.after;
     match code::next::next_pair(
         progress.freq,
         progress.count,
         letters.count,
-        after,
+        progress.after,
         text,
         at,
     ) {
-        Next::End => Handed {
+        Ok(Next::End) => Handed {
             at,
-            piece: Piece::End,
+            piece: Ok(None),
             progress,
         },
-        Next::Fault(number) => Handed {
+        Err(number) => Handed {
             at,
-            piece: Piece::Fault(number),
+            piece: Err(number),
             progress,
         },
-        Next::Spelled(on, off, next) => {
-            let p = Pair { on, off };
+        Ok(Next::Spelled(p, next)) => {
             let learnt = code::letters::learn(letters, p);
             pair_handed(progress, p, learnt, After::Spelling, next)
         }
-        Next::Letter(i, next) => {
+        Ok(Next::Letter(i, next)) => {
             let p = pair_of(letters, i);
             pair_handed(progress, p, letters, After::Lettering, next)
         }

@@ -7,6 +7,7 @@ use native.Mathlib.Nat.{add-zero}
 use native.Mathlib.Omega.{arith}
 use borrow.Author.Tests.{ne_eqb, lt-ltb, le-ltb, le-leb, lt-leb, ltb-true, leb-true, leb-false}
 use lib.Dec.{eqb, ltb, leb}
+use Rattle.std.specs.Prelude.{Some, None, Result}
 use lib.ListN.{length, drop, get_or, length-append}
 use lib.Seq.{drop-drop, get_or-drop}
 use Rattle.laws.specs.Checks.{◌⇒◌, first, between}
@@ -19,7 +20,6 @@ use Rattle.words.specs.Digits.{is_digit, worth}
 use Rattle.words.specs.Pairs.{pair}
 use Rattle.meaning.specs.Line.{is_number, within, is_count, is_letter, lettered, opening, on, off_due, off, spelling, Stride, stop, go, lettering, Reading, faulty, sound, after, reads, code_in}
 use Rattle.text.specs.Number.{run, number_of, number_at}
-use Rattle.code.specs.declared.next.Count.TheVariants.{Bad, Good}
 use Rattle.code.specs.declared.next.Next.{Next}
 use Rattle.code.specs.declared.next.After.TheVariants.{Nothing, Spelling, Lettering}
 use Rattle.code.specs.Limits.{legal}
@@ -85,11 +85,11 @@ module _ (freq : ℕ) where
       (again : (qs : List Pair) (at : ℕ) → k + length qs ≡ 260
       → reading_of (read_from (suc k) freq s qs (lettered qs) Spelling at) ≡ behind_spelled qs (drop at s))
       (room : suc k + length ps ≡ 260) where
-    abbrev then : Next → Reading
+    abbrev then : Result Next ℕ → Reading
     then x = reading_of (read_on (read_from (suc k) freq s) ps (lettered ps) x)
 
     count_some : (at c : ℕ) (w : List ℕ) → drop at s ≡ c ∷ w → is_digit c ≡ true
-        → count_at freq s at ≡ cond (is_count freq (c ∷ run w)) (Good (worth 0 (c ∷ run w)) (at + suc (length (run w)))) Bad
+        → count_at freq s at ≡ cond (is_count freq (c ∷ run w)) (Some (worth 0 (c ∷ run w), at + suc (length (run w)))) None
     unfolding count_at number_at number_of
     count_some at c w e g =
         let digits : all is_digit (c ∷ run w) ≡ true = and_true (is_digit c) (all is_digit (run w)) g (leading_passes is_digit w) in
@@ -98,7 +98,7 @@ module _ (freq : ℕ) where
         (λ f. rw (f, le-ltb 6 (suc (length (run w))) (leb-true (suc (length (run w))) 6 f)))
         (λ f. rw (f, lt-ltb 6 (suc (length (run w))) (leb-false (suc (length (run w))) 6 f))))
 
-    count_none : (at : ℕ) (x : List ℕ) → drop at s ≡ x → run x ≡ [] → count_at freq s at ≡ Bad
+    count_none : (at : ℕ) (x : List ℕ) → drop at s ≡ x → run x ≡ [] → count_at freq s at ≡ None
     unfolding count_at number_at number_of
     count_none at x e g = rw (e, g)
 
@@ -117,7 +117,7 @@ module _ (freq : ℕ) where
         (spelled ∙ sym (off_ended ps n (c ∷ run w) w (drop (length (run w)) w) refl) ∙ sym (off_run ps n (c ∷ []) w)))
         (λ g. rw (count_none at (c ∷ w) e (rw g), g))))
       where
-        spelled : then (paired n (cond (is_count freq (c ∷ run w)) (Good (worth 0 (c ∷ run w)) (at + suc (length (run w)))) Bad))
+        spelled : then (paired n (cond (is_count freq (c ∷ run w)) (Some (worth 0 (c ∷ run w), at + suc (length (run w)))) None))
             ≡ cond (is_count freq (c ∷ run w)) (behind_spelled (ps ++ (pair n (worth 0 (c ∷ run w)) ∷ [])) (drop (length (run w)) w)) (faulty 9)
         spelled =
             let v = worth 0 (c ∷ run w) in

@@ -1,6 +1,6 @@
 // Codes handed out pair by pair, through a reader of the text.
 use crate::say;
-use reader::{Piece, Progress};
+use reader::Progress;
 use words::Pair;
 
 fn say_pair(rt: &impl Print, p: Pair) {
@@ -30,15 +30,15 @@ fn hand_all(rt: &impl Print, text: &[u8], pairs: &[Pair], last: Result<(), u64>)
         let n = progress.count;
         let handed = reader::hand_out(progress, text, at);
         let got = match handed.piece {
-            Piece::Pair(p) => {
+            Ok(Some(p)) => {
                 say_pair(rt, p);
                 ok = ok && pairs.get(n) == Some(&p);
                 progress = handed.progress;
                 at = handed.at;
                 continue;
             }
-            Piece::End => Ok(()),
-            Piece::Fault(number) => Err(number),
+            Ok(None) => Ok(()),
+            Err(number) => Err(number),
         };
         say_last(rt, got);
         return ok && n == pairs.len() && got == last;

@@ -3,7 +3,6 @@
 #![tactic(auto)]
 
 use code::Code;
-use code::limits::Smallest;
 use command::given::{Command, Given};
 use hub::{Answer, Hub};
 use pace::Micros;
@@ -197,47 +196,45 @@ fn both_forms(rt: &impl Print) {
     );
 }
 
-fn say_smallest(rt: &impl Print, refused: bool, number: u64) {
-    if refused {
-        say::text(rt, b"refusal ");
+fn say_smallest(rt: &impl Print, smallest: Result<u64, u64>) {
+    match smallest {
+        Ok(count) => {
+            say::number(rt, count);
+        }
+        Err(number) => {
+            say::text(rt, b"refusal ");
+            say::number(rt, number);
+        }
     }
-    say::number(rt, number);
 }
 
 // The smallest legal count for a frequency, or the number of its refusal.
-fn smallest_vector(rt: &impl Print, freq: u64, refused: bool, expected: u64) {
+fn smallest_vector(rt: &impl Print, freq: u64, expected: Result<u64, u64>) {
     say::text(rt, b"smallest count at ");
     say::number(rt, freq);
     say::text(rt, b": expected ");
-    say_smallest(rt, refused, expected);
+    say_smallest(rt, expected);
     say::text(rt, b", got ");
-    match code::limits::smallest_count(freq) {
-        Smallest::Refused(number) => {
-            say_smallest(rt, true, number);
-            say::verdict(rt, refused && number == expected);
-        }
-        Smallest::Count(count) => {
-            say_smallest(rt, false, count);
-            say::verdict(rt, !refused && count == expected);
-        }
-    }
+    let got = code::limits::smallest_count(freq);
+    say_smallest(rt, got);
+    say::verdict(rt, got == expected);
 }
 
 // 12,500 counts of it reach the frequency, and it is 4 at least.
 fn smallest_counts(rt: &impl Print) {
-    smallest_vector(rt, 14999, true, 5);
-    smallest_vector(rt, 15000, false, 4);
-    smallest_vector(rt, 40000, false, 4);
-    smallest_vector(rt, 48000, false, 4);
-    smallest_vector(rt, 50000, false, 4);
-    smallest_vector(rt, 50001, false, 5);
-    smallest_vector(rt, 60000, false, 5);
-    smallest_vector(rt, 62500, false, 5);
-    smallest_vector(rt, 62501, false, 6);
-    smallest_vector(rt, 487500, false, 39);
-    smallest_vector(rt, 487501, false, 40);
-    smallest_vector(rt, 500000, false, 40);
-    smallest_vector(rt, 500001, true, 5);
+    smallest_vector(rt, 14999, Err(5));
+    smallest_vector(rt, 15000, Ok(4));
+    smallest_vector(rt, 40000, Ok(4));
+    smallest_vector(rt, 48000, Ok(4));
+    smallest_vector(rt, 50000, Ok(4));
+    smallest_vector(rt, 50001, Ok(5));
+    smallest_vector(rt, 60000, Ok(5));
+    smallest_vector(rt, 62500, Ok(5));
+    smallest_vector(rt, 62501, Ok(6));
+    smallest_vector(rt, 487500, Ok(39));
+    smallest_vector(rt, 487501, Ok(40));
+    smallest_vector(rt, 500000, Ok(40));
+    smallest_vector(rt, 500001, Err(5));
 }
 
 // The fault of the request that a line is read as, 0 where it has none. The 0 stays: it is what the row prints, by `say::compared`.

@@ -1,12 +1,11 @@
 -- The worked values of document 01 that are marked P, and the bench program's session. Each row says what is given and what it gives; `Holds` says what a row claims, and
 -- proofs/Worked.antt proves it of the whole table.
-use Rattle.std.specs.Prelude.{ℕ, ◌≡◌, List, [], ◌∷◌, map}
+use Rattle.std.specs.Prelude.{ℕ, ◌≡◌, List, [], ◌∷◌, map, Ok}
 use Prim.Native.String.{String}
 use Rattle.std.proofs.Math.Option.{none, some}
 use Rattle.laws.specs.Bytes.{bytes}
 use Rattle.words.specs.Pairs.{pairs_of}
 use Rattle.meaning.specs.Table.{Answer, taken, replied, Call, line, reading, waiting, Said, said}
-use Rattle.code.specs.declared.limits.Smallest.TheVariants.{Count}
 use Rattle.code.specs.Limits.{SmallestCount}
 use Rattle.code.specs.declared.Code.{Code}
 use Rattle.code.specs.declared.Code.TheVariants.{Fault}
@@ -47,7 +46,7 @@ completion moment owner text = taken (record { moment = moment; owner = some own
 abbrev pub HoldsOf : Row → Type 0
 HoldsOf (lettered counts text) =
     (code_text Lettered (pairs_of counts) ≡ bytes text) × (read_code 40000 (bytes text) 0 ≡ pairs (pairs_of counts))
-HoldsOf (smallest freq count) = SmallestCount freq (Count count)
+HoldsOf (smallest freq count) = SmallestCount freq (Ok count)
 HoldsOf (code text gives) = read_of (read_code 40000 (bytes text) 0) ≡ gives
 HoldsOf (answered text reply) = (store : List ℕ) → answers (run fresh_hub store (asks 0 text ∷ [])) ≡ (told reply ∷ [])
 HoldsOf (completes text n) =

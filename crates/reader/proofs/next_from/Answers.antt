@@ -4,20 +4,20 @@ use Rattle.reader.proofs.next_from.Goals as goal
 
 pub pair_handed-requires : goal.pair_handed-requires
 pair_handed-requires c =
-    (standing_sound c.args.progress _ _ (sym c.next_pair.ensures ∙ c.in-Spelled.is)).0
+    (standing_sound c.args.progress _ _ (rw c.in-Ok-Spelled.field-0-is at (sym c.next_pair.ensures ∙ c.in-Ok-Spelled.is))).0
 
-pub pair_handed-requires-in-Letter : goal.pair_handed-requires-in-Letter
-pair_handed-requires-in-Letter c =
-    (standing_sound c.args.progress _ _ (sym c.next_pair.ensures ∙ c.in-Letter.is)).0
+pub pair_handed-requires-in-Ok-Letter : goal.pair_handed-requires-in-Ok-Letter
+pair_handed-requires-in-Ok-Letter c =
+    (standing_sound c.args.progress _ _ (rw c.in-Ok-Letter.field-0-is at (sym c.next_pair.ensures ∙ c.in-Ok-Letter.is))).0
 
-pub returns-in-End : goal.returns-in-End
-returns-in-End c = sym (handed_is _ _ _ (sym c.next_pair.ensures ∙ c.in-End.is))
+pub returns-in-Ok-End : goal.returns-in-Ok-End
+returns-in-Ok-End c = sym (handed_is _ _ _ (rw c.in-Ok-End.field-0-is at (sym c.next_pair.ensures ∙ c.in-Ok-End.is)))
 
-pub returns-in-Fault : goal.returns-in-Fault
-returns-in-Fault c = sym (handed_is _ _ _ (sym c.next_pair.ensures ∙ c.in-Fault.is))
+pub returns-in-Err : goal.returns-in-Err
+returns-in-Err c = sym (handed_is _ _ _ (sym c.next_pair.ensures ∙ c.in-Err.is))
 
-pub returns-in-Spelled : goal.returns-in-Spelled
-returns-in-Spelled c = c.pair_handed.ensures ∙ rw c.learn-learnt.ensures.result (sym (handed_is _ _ _ (sym c.next_pair.ensures ∙ c.in-Spelled.is)))
+pub returns-in-Ok-Spelled : goal.returns-in-Ok-Spelled
+returns-in-Ok-Spelled c = c.pair_handed.ensures ∙ rw c.learn-learnt.ensures.result (sym (handed_is _ _ _ (rw c.in-Ok-Spelled.field-0-is at (sym c.next_pair.ensures ∙ c.in-Ok-Spelled.is))))
 
-pub returns-in-Letter : goal.returns-in-Letter
-returns-in-Letter c = c.pair_handed-in-Letter.ensures ∙ rw c.pair_of-p.ensures (sym (handed_is _ _ _ (sym c.next_pair.ensures ∙ c.in-Letter.is)))
+pub returns-in-Ok-Letter : goal.returns-in-Ok-Letter
+returns-in-Ok-Letter c = c.pair_handed-in-Ok-Letter.ensures ∙ rw c.pair_of-p.ensures (sym (handed_is _ _ _ (rw c.in-Ok-Letter.field-0-is at (sym c.next_pair.ensures ∙ c.in-Ok-Letter.is))))

@@ -6,6 +6,3 @@ use Rattle.decoder.proofs.read.learn_all.Given as goal
 
 abbrev pub invariant-loop-i : goal.invariant-loop-i
 invariant-loop-i l = Kept l.known (held l.known) × (letters_of (held l.initial.known) (pairs_at l.counts l.from (l.to - l.from)) ≡ letters_of (held l.known) (pairs_at l.counts l.i (l.to - l.i)))
-
-abbrev pub decreases-loop-i : goal.decreases-loop-i
-decreases-loop-i l = l.to - l.i

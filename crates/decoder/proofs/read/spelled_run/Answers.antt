@@ -1,6 +1,5 @@
-use mathlib.Core.Path.{◌≡◌, subst}
+use mathlib.Core.Path.{◌≡◌}
 use lib.ListN.{length}
-use Rattle.decoder.specs.Quick.{QuickAt}
 use Rattle.decoder.proofs.Follows.{follows_none, follows_then, follows_spelled}
 use borrow.Author.Rules.{rules}
 use Rattle.decoder.proofs.read.spelled_run.Goals as goal
@@ -12,12 +11,5 @@ pub loop-n-preserved : goal.loop-n-preserved
 loop-n-preserved c =
     λ t.
     let before = c.loop-n.invariant t in
-    let quick = subst (QuickAt _ _ _) c.in-Pair.is c.quick_at.ensures in
     let size : length c.loop-n.counts ≡ 520 = search rules in
-    (_, follows_then before.1 (follows_spelled (quick _ (length before.0) c.loop-n-test.true) size c.put_pair.ensures))
-
-pub returns-after-loop-n : goal.returns-after-loop-n
-returns-after-loop-n c = c.loop-n.invariant
-
-pub returns-in_default : goal.returns-in_default
-returns-in_default c = c.loop-n.invariant
+    (_, follows_then before.1 (follows_spelled (c.in-Some.ensures _ (length before.0) c.loop-n-test.true) size c.put_pair.ensures))

@@ -3,4 +3,5 @@ use Rattle.reader.proofs.Pieces.{handed_more}
 use Rattle.vectors.proofs.handing.hand_all.Goals as goal
 
 pub loop-p-smaller : goal.loop-p-smaller
-loop-p-smaller g c = omega (arith, handed_more c.loop-p.progress _ _ c.hand_out-handed.ensures c.in-Pair.is)
+loop-p-smaller g c =
+    omega (arith, handed_more c.loop-p.progress _ _ c.hand_out-handed.ensures (rw c.in-Ok-Some.field-0-is at c.in-Ok-Some.is))

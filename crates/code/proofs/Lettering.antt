@@ -1,20 +1,19 @@
 -- Laws of letters: the search for a pair, and one pair more.
 use Prim.Native.Nat.{ℕ, zero, suc, ◌+◌, ◌≤◌, ◌<◌}
 use mathlib.Core.Path.{◌≡◌, refl, ap}
-use mathlib.Core.Bool.{true, false, cond, not}
+use mathlib.Core.Bool.{true, cond, not}
 use mathlib.Core.List.{List, [], ◌∷◌, ◌++◌}
 use native.Mathlib.Omega.{arith}
 use native.Mathlib.Numerals.{add-one}
 use borrow.Author.Tests.{lt-ltb, le-ltb, ltb-true, eq-eqb, eqb-true}
 use lib.Dec.{ltb, eqb}
-use lib.ListN.{length, take, drop, get_or, set, length-set, length-append, length-take, drop_of_length-le}
-use lib.Seq.{length-take-le, take-suc-set, get_or-take}
+use lib.ListN.{length, get_or, set, length-set, length-append}
+use lib.Seq.{length-take-le, take-suc-set}
 use Rattle.std.specs.Prelude.{position, unwrap_or}
 use Rattle.std.specs.List.{position_or_len}
 use Rattle.std.proofs.lemmas.List.Sums.{prefix_len-le-length}
 use Rattle.std.proofs.lemmas.List.Recursion.{is_position_or_len}
 use Rattle.laws.proofs.Choice.{by_test, not_both, cond_case}
-use Rattle.laws.proofs.Lists.{drop_next}
 use Rattle.words.specs.declared.Pair.{Pair}
 use Rattle.code.specs.declared.letters.Letters.{Letters}
 use Rattle.words.specs.Pairs.{pair, same_pair}

@@ -16,7 +16,6 @@ use Rattle.code.specs.declared.next.Next.{Next}
 use Rattle.code.specs.declared.next.Next.TheVariants.{End, Spelled, Letter}
 use Rattle.code.specs.declared.next.After.{After}
 use Rattle.code.specs.declared.next.After.TheVariants.{Nothing, Spelling, Lettering}
-use Rattle.words.specs.Pairs.{pair}
 use Rattle.code.specs.Limits.{legal, legal_pair}
 use Rattle.code.specs.Next.{is_letter, judged, count_at, paired, off_at, after_on, counted, spelled_at, letter_at, begun_at, begins, at_end, next_pair}
 

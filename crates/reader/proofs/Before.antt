@@ -2,7 +2,6 @@
 use Prim.Native.Nat.{ℕ}
 use mathlib.Core.Path.{◌≡◌, refl, ◌∙◌}
 use mathlib.Core.List.{List, [], ◌∷◌, ◌++◌}
-use native.Mathlib.Omega.{arith}
 use Rattle.std.specs.Prelude.{Some, Result, Ok, Err}
 use lib.ListN.{get_or}
 use Rattle.words.specs.declared.Pair.{Pair}

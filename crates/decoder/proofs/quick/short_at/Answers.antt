@@ -1,7 +1,7 @@
 use Prim.Native.Nat.{◌+◌}
 use mathlib.Core.Path.{◌≡◌, refl, sym, ◌∙◌}
 use native.Mathlib.Omega.{arith}
-use Rattle.decoder.proofs.Shorts.{shortly_start, shortly_more, shortly_stop}
+use Rattle.decoder.proofs.Shorts.{shortly_more, shortly_stop}
 use Rattle.decoder.proofs.quick.short_at.Goals as goal
 
 pub returns-then-not-is_digit : goal.returns-then-not-is_digit

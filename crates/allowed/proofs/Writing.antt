@@ -35,7 +35,7 @@ writer_write_sendir = promised _ refl (λ _ _ _ _ _ _ p q. (p.answer ∙ sym q.a
 
 -- reply::put_address
 pub reply_put_address : One reply.put_address.ended (λ _ _. reply.put_address.spec)
-reply_put_address = promised _ refl (λ _ _ _ _ _ _ p q. (refl, both (one_end p.wrote q.wrote) refl))
+reply_put_address = promised _ refl (λ _ _ _ _ _ _ p q. (refl, both (one_end p.0 q.0) refl))
 
 -- reply::put_last
 pub reply_put_last : One reply.put_last.ended (λ _ _. reply.put_last.spec)

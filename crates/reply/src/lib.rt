@@ -61,8 +61,7 @@ impl Reply {
 // A word, and then m:p.
 pub fn put_address(out: &mut Out<'_>, w: &[u8], place: Place)
     requires { Room out.old (length w.now + 41) }
-    ensures wrote { Appended out.old out.new (address_text w.now place) }
-    ensures within { out.new.at ≤ out.old.at + (length w.now + 41) }
+    ensures { Appended out.old out.new (address_text w.now place) × (out.new.at ≤ out.old.at + (length w.now + 41)) }
 {
     out.word(w);
     out.number(place.m);

@@ -12,9 +12,8 @@ byte-requires c = omega (arith, decimal_most c.args.place.m)
 pub number-requires-2 : goal.number-requires-2
 number-requires-2 c = omega (arith, decimal_most c.args.place.m, decimal_most c.args.place.port)
 
-pub returns-clause-wrote : goal.returns-clause-wrote
-returns-clause-wrote c =
-    and_then (and_then (and_then c.word.ensures c.number.ensures) c.byte.ensures) c.number-2.ensures
-
-pub returns-clause-within : goal.returns-clause-within
-returns-clause-within c = omega (arith, decimal_most c.args.place.m, decimal_most c.args.place.port)
+pub returns : goal.returns
+returns c = (
+  and_then (and_then (and_then c.word.ensures c.number.ensures) c.byte.ensures) c.number-2.ensures,
+  omega (arith, decimal_most c.args.place.m, decimal_most c.args.place.port),
+)

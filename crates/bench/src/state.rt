@@ -3,7 +3,8 @@ ghost use Rattle.hub.specs.Record.{SoundHub};
 
 use hub::Hub;
 
-// A line that is not ended: its length so far, and whether there was more than has room.
+// A line that is not ended: its length so far, and whether there was more than has room. The flag stays beside the length: of a line that is too
+// long the first bytes are looked at all the same, for whose it is.
 #[derive(Clone, Copy)]
 pub struct Begun {
     pub size: usize,

@@ -6,7 +6,8 @@ use crate::Code;
 use text::number::Number;
 use words::Pair;
 
-// What stands before a place in a code's text: nothing of the code, a spelled pair or a letter.
+// What stands before a place in a code's text: nothing of the code, a spelled pair or a letter. It stays an enum of its own: each of the three
+// decides what may follow.
 #[derive(Clone, Copy)]
 pub enum After {
     Nothing,

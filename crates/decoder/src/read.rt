@@ -124,7 +124,8 @@ fn lags(s: &[u8], at: usize, seen: usize, count: usize) -> bool
     code::next::is_letter(text::field::byte_at(s, at)) && seen < count
 }
 
-// The code that begins at a place of a text and runs to its end. A pair is learnt only when a letter comes behind it.
+// The code that begins at a place of a text and runs to its end. A pair is learnt only when a letter comes behind it. The loop counts nothing: the
+// place moves by what was read, and a turn that learns reads nothing.
 pub fn read_code(freq: u64, s: &[u8], start: usize, counts: &mut [u16; Code::MOST_COUNTS]) -> Code
     ensures { ReadInto (read_code freq s.now start) counts.old result counts.new }
 {

@@ -41,7 +41,8 @@ pub enum Frame {
     Over(usize),
 }
 
-// What a byte can complete. A refusal is for a frame's connection; one of 0 is that of a frame of another form.
+// What a byte can complete. A refusal is for a frame's connection; one of 0 is that of a frame of another form. It stays one of the events, and no
+// Err: the bytes behind it are read on as behind any other.
 #[derive(Clone, Copy)]
 pub enum Event {
     Closed(u8),

@@ -7,7 +7,8 @@ use connector::{Completion, Owner};
 use pace::Micros;
 use request::Place;
 
-// The completions of a wait in their order; those behind the count are none.
+// The completions of a wait in their order; those behind the count are none. The count stays beside the array: there is no heap, and the record
+// goes by value.
 #[derive(Clone, Copy)]
 pub struct Completions {
     pub count: usize,

@@ -16,6 +16,8 @@ use pace::Micros;
 use reply::Reply;
 use request::Place;
 
+// That a hub is sound stays a clause of the calls that need it, and is no invariant of the type: `closed`, `reading` and `applied` take any hub,
+// and document 01 has it as the one thing that a call may ask. So it is with the connector and its pace, the server and the assembler.
 #[derive(Clone, Copy)]
 pub struct Hub {
     pub connectors: [Connector; Hub::CONNECTORS],
@@ -26,7 +28,8 @@ pub struct Hub {
 // behind the pairs that are being sent, or in that of an idle connector, means nothing.
 pub type Store = [u16; Hub::COUNTS];
 
-// What a call makes of the hub: nothing, another record of one connector, or another state of one relay. A slot is 0 for port 1.
+// What a call makes of the hub: nothing, another record of one connector, or another state of one relay. A slot is 0 for port 1. It stays an enum
+// of three: an Option of the other two would be matched twice wherever a change is applied.
 #[derive(Clone, Copy)]
 pub enum HubChange {
     Nothing,

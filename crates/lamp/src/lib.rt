@@ -17,7 +17,9 @@ impl Points {
     const PERCENT: u32 = 100000;
 }
 
-// A lamp on its way: how far its target is away still and whether it lies above, the target in percent, and the ramp to it.
+// A lamp on its way: how far its target is away still and whether it lies above, the target in percent, and the ramp to it. The flag stays beside
+// the gap: a number with a sign would be taken apart again wherever it is used. That a lamp is sound stays a clause and is no invariant of the type:
+// `connector::records::with_lamp` takes any lamp, and would ask for more.
 #[derive(Clone, Copy)]
 pub struct Lamp {
     pub gap: Points,

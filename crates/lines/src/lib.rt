@@ -12,7 +12,8 @@ pub struct Assembler {
     pub size: usize,
 }
 
-// What a call has: no line yet, a whole line of so many bytes, or an overlong one.
+// What a call has: no line yet, a whole line of so many bytes, or an overlong one. It stays an enum of its own: each of the three is answered in
+// another way.
 #[derive(Clone, Copy)]
 pub enum Found {
     Nothing,

@@ -13,7 +13,8 @@ pub enum Device {
     End,
 }
 
-// What a line is. Only a State has a contact's or a relay's 0 or 1.
+// What a line is. Only a State has a contact's or a relay's 0 or 1. That it is no reply stays one of the answers, no plainer as the None of an
+// Option: it is counted and printed as each other answer is.
 #[derive(Clone, Copy)]
 pub enum Heard {
     NotReply,

@@ -27,7 +27,8 @@ pub struct Progress {
     pub end: usize,
 }
 
-// The bytes of a block from a place on: turns, while there are bytes and there is room for another.
+// The bytes of a block from a place on: turns, while there are bytes and there is room for another. The loop counts by hand, as a turn uses as many
+// bytes as it can, and says how many.
 fn fed(
     state: State,
     store: &mut Store,

@@ -71,7 +71,7 @@ impl Ask {
     pub const MOST_RAMP: u64 = 10;
 }
 
-// What is asked of a relay.
+// What is asked of a relay. It stays an enum of its own: to get is a request too, and no state that is missing.
 #[derive(Clone, Copy)]
 pub enum Turn {
     Set(u64),

@@ -4,7 +4,8 @@ ghost use Rattle.script.specs.Input.{input_of, figures_of, reading_in, call_in};
 
 use crate::parts;
 
-// What a line asks for: a request that begins at a place, a reading, a closing, a wait, or it is of another form.
+// What a line asks for: a request that begins at a place, a reading, a closing, a wait, or it is of another form. That stays one of the five, no
+// plainer as the None of an Option: it has its own answer too.
 #[derive(Clone, Copy)]
 pub enum Input {
     Other,

@@ -24,13 +24,16 @@ fn past(freq: u64, count: u64, more: u64) -> u64
     count
 }
 
-// The smallest legal count for a frequency, or a refusal. For a controller that cannot divide: multiplication, addition and comparison only. It is at most 40, so one of the 64 counts from the
-// least on; each look tells in which half of those that are left. The six calls stay: a loop that counts up would be shorter, but a compiler
-// makes a division of it (document 02, request [4]).
+// The smallest legal count for a frequency, or a refusal. For a controller that cannot divide: multiplication, addition and comparison only. It is
+// at most 40, so one of the 64 counts from the least on; each look tells in which half of those that are left. The six calls stay: a loop that
+// counts up would be shorter, but a compiler makes a division of it (document 02, request [4]).
 pub fn smallest_count(freq: u64) -> Result<u64, u64>
     ensures { SmallestCount freq result }
 {
-    if freq < Code::LEAST_FREQ || Code::MOST_FREQ < freq {
+    if freq < Code::LEAST_FREQ {
+        return Err(5);
+    }
+    if Code::MOST_FREQ < freq {
         return Err(5);
     }
     let mut count = Code::LEAST_COUNT;

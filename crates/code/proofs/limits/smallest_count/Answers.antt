@@ -2,14 +2,13 @@ use mathlib.Core.Path.{refl}
 use native.Mathlib.Omega.{arith}
 use Rattle.code.proofs.Smallest.{too_low, too_high, Searching, search_begins, search_halves, search_ends}
 use Rattle.code.proofs.limits.smallest_count.Goals as goal
-use Rattle.code.proofs.limits.smallest_count.Goals.{then-freq-lt-LEAST_FREQ-via-then-freq-lt-LEAST_FREQ, then-freq-lt-LEAST_FREQ-via-else-freq-lt-LEAST_FREQ+then-freq-gt-MOST_FREQ, After-past-count, After-past-count-2, After-past-count-3, After-past-count-4, After-past-count-5, After-past-count-6}
+use Rattle.code.proofs.limits.smallest_count.Goals.{After-past-count, After-past-count-2, After-past-count-3, After-past-count-4, After-past-count-5, After-past-count-6}
 
 pub returns-then-freq-lt-LEAST_FREQ : goal.returns-then-freq-lt-LEAST_FREQ
-returns-then-freq-lt-LEAST_FREQ c =
-    elim c.then-freq-lt-LEAST_FREQ.branch [
-      | then-freq-lt-LEAST_FREQ-via-then-freq-lt-LEAST_FREQ w ↦ (refl, too_low w.if-freq-lt-LEAST_FREQ.true)
-      | then-freq-lt-LEAST_FREQ-via-else-freq-lt-LEAST_FREQ+then-freq-gt-MOST_FREQ w ↦ (refl, too_high w.if-freq-gt-MOST_FREQ.true)
-    ]
+returns-then-freq-lt-LEAST_FREQ c = (refl, too_low c.if-freq-lt-LEAST_FREQ.true)
+
+pub returns-then-freq-gt-MOST_FREQ : goal.returns-then-freq-gt-MOST_FREQ
+returns-then-freq-gt-MOST_FREQ c = (refl, too_high c.if-freq-gt-MOST_FREQ.true)
 
 -- where the search is after each look
 after-1 : (c : After-past-count) → Searching c.args.freq c.past-count.result 31

@@ -61,8 +61,8 @@ fn line_of<'a>(begun: Begun, part: &'a [u8], line: &'a [u8]) -> &'a [u8] {
     scan::front(line, begun.size)
 }
 
-// The bytes of a block. The hub is changed in its place, and not copied for a line. The loop stays one from LF to LF: `split` would not say
-// whether an LF ended the last part.
+// The bytes of a block. The hub is changed in its place, and not copied for a line. The loop stays one from LF to LF: `split` would also
+// give the rest that no LF ends, which is kept and not answered.
 fn fed(
     rt: &impl Print,
     state: State,

@@ -1,6 +1,7 @@
 // The line in hand, which no LF has ended yet.
 
 // Its first bytes, and how many bytes it has. Of a longer one than is kept the rest is let go: it is of another form, or not a reply.
+// The count stays beside the array: there is no heap, and the memory is fixed.
 #[derive(Drop)]
 pub struct Line {
     bytes: [u8; Line::ROOM],

@@ -81,8 +81,8 @@ request_connector = told _ refl (λ _ _ _ _. refl)
 pub request_nowhere : One request.Place.nowhere.ended (λ _ _. request.Place.nowhere.spec)
 request_nowhere = told _ refl (λ _ _ _ _. refl)
 
--- request::address::address_fault
-pub request_address_fault : One request.address.address_fault.ended (λ _ _. request.address.address_fault.spec)
+-- request::address_fault
+pub request_address_fault : One request.address_fault.ended (λ _ _. request.address_fault.spec)
 request_address_fault = told _ refl (λ _ _ _ _. refl)
 
 -- request::mode::mode_at

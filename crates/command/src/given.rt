@@ -29,7 +29,7 @@ pub struct Command {
 fn place_within(place: Place) -> bool
     ensures { result ≡ place_within place }
 {
-    request::address::address_fault(Name::SendIr, place).is_ok()
+    request::address_fault(Name::SendIr, place).is_ok()
 }
 
 // Whether every field is within its limits.

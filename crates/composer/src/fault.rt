@@ -5,8 +5,7 @@ ghost use Rattle.composer.specs.Fault.{judged, fields_fault, counts_fault, sendi
 use crate::Wish;
 use code::Code;
 use command::given::{Command, Given};
-use request::address::address_fault;
-use request::{Ask, Name};
+use request::{Ask, Name, address_fault};
 
 // 004 to 007
 #[tactic(auto, unfolding(crate::specs::Fault::fields_fault))]

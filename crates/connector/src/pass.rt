@@ -27,28 +27,38 @@ fn lit(c: Connector, wait: Micros) -> Passing
     Passing::Running(crate::records::with_lamp(c, c.lamp.passed(wait)))
 }
 
-// The connector at a place some microseconds later.
+// The connector at a place some microseconds later. What it transmits is taken apart by a match and put together again: `let .. else` and a struct
+// update cost the port some 250 instructions a wait.
 pub fn pass(c: Connector, place: Place, wait: Micros) -> Passing
     requires { SoundConnector c × (wait.0 ≤ 1000000000) }
     ensures { result ≡ passing c place wait.0 }
 {
-    let Some(run) = c.sending else {
-        return lit(c, wait);
-    };
-    match run.pace.passed(u64::from(run.fields.freq), wait) {
-        Passed::Running(pace) => {
-            let next = Run { pace, ..run };
-            Passing::Running(crate::records::with_sending(c, c.owner, Some(next)))
-        }
-        Passed::Complete(moment) => {
-            let completion = Completion {
-                owner: c.owner,
-                moment,
-                place,
-                id: u64::from(run.fields.id),
-            };
-            let next = crate::records::with_sending(c, Owner::Nobody, None);
-            Passing::Complete(next, completion)
+    match c.sending {
+        None => lit(c, wait),
+        Some(run) => {
+            let fields = run.fields;
+            let old = run.pace;
+            let owner = c.owner;
+            match old.passed(u64::from(fields.freq), wait) {
+                Passed::Running(pace) => {
+                    let next = Run {
+                        fields,
+                        count: run.count,
+                        pace,
+                    };
+                    Passing::Running(crate::records::with_sending(c, owner, Some(next)))
+                }
+                Passed::Complete(moment) => {
+                    let completion = Completion {
+                        owner,
+                        moment,
+                        place,
+                        id: u64::from(fields.id),
+                    };
+                    let next = crate::records::with_sending(c, Owner::Nobody, None);
+                    Passing::Complete(next, completion)
+                }
+            }
         }
     }
 }

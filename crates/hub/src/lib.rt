@@ -149,7 +149,9 @@ impl Hub {
         }
     }
 
-    // A wait of some microseconds.
+    // A wait of some microseconds. It is inlined wherever it is called: the port calls it in two places, and one body for both would copy the hub
+    // there and back.
+    #[inline(always)]
     pub fn wait(self, n: Micros) -> Waited
         requires { SoundHub self }
         ensures { result ≡ wait_call self n.0 }

@@ -36,17 +36,15 @@ impl Book {
         Book { tallies }
     }
 
-    // After one line more: each tally counts it.
-    pub fn count(self, heard: Heard) -> Self {
-        let mut tallies = self.tallies;
-        for tally in &mut tallies {
-            *tally = tally.count(heard);
+    // One line more: each tally counts it.
+    pub fn count(&mut self, heard: Heard) {
+        for slot in 0..Book::PLACES {
+            self.tallies[slot] = self.tallies[slot].count(heard);
         }
-        Book { tallies }
     }
 
     // A place that has no state has no reading.
-    pub fn average(self, place: Place) -> Option<(u64, u64)> {
+    pub fn average(&self, place: Place) -> Option<(u64, u64)> {
         self.tallies.iter().find(|t| t.place == place)?.average()
     }
 }

@@ -18,21 +18,24 @@ impl Line {
         }
     }
 
-    // One byte more.
-    pub fn push(&mut self, b: u8) {
-        if let Some(place) = self.bytes.get_mut(self.size) {
-            *place = b;
+    // More bytes.
+    pub fn extend(&mut self, more: &[u8]) {
+        if let Some(room) = self.bytes.get_mut(self.size..) {
+            let n = more.len().min(room.len());
+            room[..n].copy_from_slice(&more[..n]);
         }
-        self.size = self.size.saturating_add(1);
+        self.size = self.size.saturating_add(more.len());
     }
 
-    // The bytes that are kept.
-    pub fn kept(&self) -> &[u8] {
-        &self.bytes[..self.size.min(Line::ROOM)]
-    }
-
-    // Whether it has more.
-    pub fn is_over(&self) -> bool {
-        Line::ROOM < self.size
+    // The line that these bytes end, as far as it is kept, and whether it has more; the next begins. One that lies whole in a block, which has
+    // no more bytes than are kept, is not copied.
+    pub fn ended<'a>(&'a mut self, end: &'a [u8]) -> (&'a [u8], bool) {
+        if self.size == 0 {
+            return (end, false);
+        }
+        self.extend(end);
+        let size = self.size;
+        self.size = 0;
+        (&self.bytes[..size.min(Line::ROOM)], Line::ROOM < size)
     }
 }

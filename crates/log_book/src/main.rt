@@ -16,19 +16,17 @@ mod output;
 mod turn;
 
 // Takes the bytes of a block, and writes what is said to the lines that end in it.
-fn fed(rt: &impl Print, book: Book, line: &mut Line, out: &mut Output, block: &[u8]) -> Book {
-    let mut book = book;
-    for &b in block {
-        if b == b'\n' {
+fn fed(rt: &impl Print, book: &mut Book, line: &mut Line, out: &mut Output, block: &[u8]) {
+    for part in block.split_inclusive(|&b| b == b'\n') {
+        if let [end @ .., b'\n'] = part {
             out.with_room(rt);
-            book = turn::turn(book, line, out);
-            line.size = 0;
+            let (text, over) = line.ended(end);
+            turn::turn(book, text, over, out);
         } else {
-            line.push(b);
+            line.extend(part);
         }
     }
     out.flush(rt);
-    book
 }
 
 // Reads and answers until the input ends. A proved loop has to end, and nothing says that an input does: so it counts its turns
@@ -44,7 +42,7 @@ fn run(rt: &(impl Input + Print)) -> io::Result<()> {
         if count == 0 {
             break;
         }
-        book = fed(rt, book, &mut line, &mut out, &block[..count]);
+        fed(rt, &mut book, &mut line, &mut out, &block[..count]);
     }
     // bytes after the last LF are a line of another form
     if line.size != 0 {

@@ -20,11 +20,15 @@ pub struct Output {
 
 impl Write for Output {
     fn write_str(&mut self, s: &str) -> fmt::Result {
-        for &b in s.as_bytes() {
-            if self.used < Output::ROOM {
-                self.bytes[self.used] = b;
-                self.used += 1;
-            }
+        let text = s.as_bytes();
+        let room = &mut self.bytes[self.used..];
+        // a text that fits has a copy of its own: where its length is known, as a literal's is, that takes no call
+        if text.len() <= room.len() {
+            room[..text.len()].copy_from_slice(text);
+            self.used += text.len();
+        } else {
+            room.copy_from_slice(&text[..room.len()]);
+            self.used = Output::ROOM;
         }
         Ok(())
     }
@@ -39,13 +43,18 @@ fn mode_name(mode: Mode) -> &'static str {
     }
 }
 
-fn device_name(device: Device) -> &'static str {
+fn device_line(device: Device) -> &'static str {
     match device {
-        Device::Ethernet => "device 0",
-        Device::Infrared => "device 1",
-        Device::Relays => "device 2",
-        Device::End => "enddevices",
+        Device::Ethernet => "device 0\n",
+        Device::Infrared => "device 1\n",
+        Device::Relays => "device 2\n",
+        Device::End => "enddevices\n",
     }
+}
+
+// The last three digits of a number, to be written one by one: `{:03}` takes a fifth of an error's line.
+fn last_three(n: u64) -> [u64; 3] {
+    [n / 100 % 10, n / 10 % 10, n % 10]
 }
 
 impl Output {
@@ -58,24 +67,41 @@ impl Output {
         }
     }
 
+    // A word, a place and a value. Each form with numbers has a function of its own, as its parts are set to 0 where the function that holds
+    // them begins: in one for all, a form of no numbers would pay for those of the others.
+    fn put_value(&mut self, word: &str, Place { m, port }: Place, value: u64) -> fmt::Result {
+        writeln!(self, "{word} {m}:{port} {value}")
+    }
+
+    fn put_stop(&mut self, Place { m, port }: Place) -> fmt::Result {
+        writeln!(self, "stop {m}:{port}")
+    }
+
+    fn put_mode(&mut self, Place { m, port }: Place, mode: Mode) -> fmt::Result {
+        writeln!(self, "mode {m}:{port} {}", mode_name(mode))
+    }
+
+    fn put_error(&mut self, Place { m, port }: Place, number: u64) -> fmt::Result {
+        let [a, b, c] = last_three(number);
+        writeln!(self, "error {m}:{port} {a}{b}{c}")
+    }
+
+    fn put_lamp(&mut self, Place { m, port }: Place, level: u64, target: u64) -> fmt::Result {
+        writeln!(self, "lamp {m}:{port} {level} {target}")
+    }
+
     fn put_heard(&mut self, heard: Heard) -> fmt::Result {
         match heard {
-            Heard::NotReply => writeln!(self, "not a reply"),
-            Heard::State(Place { m, port }, state) => writeln!(self, "state {m}:{port} {state}"),
-            Heard::Complete(Place { m, port }, id) => writeln!(self, "complete {m}:{port} {id}"),
-            Heard::Busy(Place { m, port }, id) => writeln!(self, "busy {m}:{port} {id}"),
-            Heard::Stop(Place { m, port }) => writeln!(self, "stop {m}:{port}"),
-            Heard::Mode(Place { m, port }, mode) => {
-                writeln!(self, "mode {m}:{port} {}", mode_name(mode))
-            }
-            Heard::Error(number, Place { m, port }) => {
-                writeln!(self, "error {m}:{port} {:03}", number % 1000)
-            }
-            Heard::Version => writeln!(self, "version"),
-            Heard::Listed(device) => writeln!(self, "{}", device_name(device)),
-            Heard::Lamp(Place { m, port }, level, target) => {
-                writeln!(self, "lamp {m}:{port} {level} {target}")
-            }
+            Heard::NotReply => self.write_str("not a reply\n"),
+            Heard::State(place, state) => self.put_value("state", place, state),
+            Heard::Complete(place, id) => self.put_value("complete", place, id),
+            Heard::Busy(place, id) => self.put_value("busy", place, id),
+            Heard::Stop(place) => self.put_stop(place),
+            Heard::Mode(place, mode) => self.put_mode(place, mode),
+            Heard::Error(number, place) => self.put_error(place, number),
+            Heard::Version => self.write_str("version\n"),
+            Heard::Listed(device) => self.write_str(device_line(device)),
+            Heard::Lamp(place, level, target) => self.put_lamp(place, level, target),
         }
     }
 
@@ -86,19 +112,20 @@ impl Output {
 
     pub fn average(&mut self, average: Option<(u64, u64)>) {
         let _ = match average {
-            None => writeln!(self, "no reading"),
+            None => self.write_str("no reading\n"),
             Some((ones, readings)) => writeln!(self, "{ones} of {readings}"),
         };
     }
 
     // A line of another form.
     pub fn other(&mut self) {
-        let _ = writeln!(self, "!");
+        let _ = self.write_str("!\n");
     }
 
     // The last three digits of a refusal's number.
     fn refusal(&mut self, number: u64) {
-        let _ = writeln!(self, "!{:03}", number % 1000);
+        let [a, b, c] = last_three(number);
+        let _ = writeln!(self, "!{a}{b}{c}");
     }
 
     // A request of so many bytes that was composed where it is to stand, with LF for its CR.

@@ -1,7 +1,6 @@
 // One line done: what is to be written, and what becomes of the tallies.
 use crate::asked::Asked;
 use crate::book::Book;
-use crate::line::Line;
 use crate::output::Output;
 use crate::{asked, item};
 use logger::Heard;
@@ -18,7 +17,7 @@ fn heard_of(line: &[u8], over: bool) -> Heard {
 }
 
 // = M P
-fn average(book: Book, s: &[u8], out: &mut Output) {
+fn average(book: &Book, s: &[u8], out: &mut Output) {
     match item::place(s) {
         Some((place, [])) => out.average(book.average(place)),
         _ => out.other(),
@@ -38,18 +37,17 @@ fn ask(s: &[u8], out: &mut Output) {
     }
 }
 
-// The tallies behind a line.
-pub fn turn(book: Book, line: &Line, out: &mut Output) -> Book {
-    match line.kept() {
+// The tallies count a reply. Where a line is over, only its first bytes were kept.
+pub fn turn(book: &mut Book, line: &[u8], over: bool, out: &mut Output) {
+    match line {
         [b'<', b' ', reply @ ..] => {
-            let heard = heard_of(reply, line.is_over());
+            let heard = heard_of(reply, over);
             out.heard(heard);
-            return book.count(heard);
+            book.count(heard);
         }
-        _ if line.is_over() => out.other(),
-        [b'>', asked @ ..] => ask(asked, out),
-        [b'=', place @ ..] => average(book, place, out),
+        _ if over => out.other(),
+        [b'>', b' ', ..] => ask(&line[1..], out),
+        [b'=', b' ', ..] => average(book, &line[1..], out),
         _ => out.other(),
     }
-    book
 }

@@ -1,6 +1,7 @@
 -- Bounds of a sound pace, and the part of its way that the finished copies take.
 use Prim.Native.Nat.{ℕ, ◌+◌, ◌-◌, ◌*◌, ◌%◌, ◌≤◌, ◌<◌}
-use native.Mathlib.Nat.{mul-le-mul, mod-le, div-mul-le_self, lt-div-mul-add}
+use mathlib.Core.Path.{◌≡◌}
+use native.Mathlib.Nat.{mul-le-mul, mod-le, div-mul-le_self, zero-div, lt-div-mul-add}
 use native.Mathlib.Omega.{arith}
 use Rattle.pace.specs.declared.Pace.{Pace}
 use Rattle.meaning.specs.Time.{in_ticks}
@@ -19,6 +20,13 @@ wait_high f w = mul-le-mul w f
 pub within_high : {p : Pace} → SoundPace p → (p.at.0 - in_ticks p.lead.0) % in_ticks p.tail.0 ≤ 546000000000000
 within_high {p} s =
     omega (arith, end_high s, s.under_way, mod-le (p.at.0 - in_ticks p.lead.0) (in_ticks p.tail.0))
+
+-- up to the offset no copy is finished
+pub finished_none : (p : Pace) → p.at.0 ≤ in_ticks p.lead.0 → finished p ≡ 0
+unfolding finished
+finished_none p h =
+    let e : p.at.0 - in_ticks p.lead.0 ≡ 0 = omega arith in
+    rw (e, zero-div)
 
 -- the finished copies lie behind the offset
 pub finished_within : (p : Pace) → finished p * in_ticks p.tail.0 ≤ p.at.0 - in_ticks p.lead.0

@@ -80,14 +80,18 @@ impl Pace {
         Ticks((u64::from(self.lead.0) + u64::from(self.copies) * u64::from(self.tail.0)) * 1000000)
     }
 
-    // The copies that are finished; at an exact boundary the one just ended is.
-    #[tactic(auto, unfolding(crate::specs::Pace::finished))]
+    // The copies that are finished; at an exact boundary the one just ended is. The test stays, where `saturating_sub` would do: before the offset
+    // nothing is divided (docs/EMBEDDING.md).
+    #[tactic(auto, using(crate::proofs::Bounds::finished_none), unfolding(crate::specs::Pace::finished))]
     pub fn finished(self) -> u64
         requires { SoundPace self }
         ensures { result ≡ finished self }
     {
         let lead = u64::from(self.lead.0) * 1000000;
-        self.at.0.saturating_sub(lead) / (u64::from(self.tail.0) * 1000000)
+        if self.at.0 < lead {
+            return 0;
+        }
+        (self.at.0 - lead) / (u64::from(self.tail.0) * 1000000)
     }
 
     // The copies finished and so many more; those that are finished are taken off both sides.

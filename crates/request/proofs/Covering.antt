@@ -12,7 +12,7 @@ use Rattle.laws.proofs.Choice.{and_false, by_test, not_both}
 
 module _ (p : ℕ → Bool) where
   -- a piece at the end that fails
-  drop_fails : (s : List ℕ) (b : ℕ) → all p (drop b s) ≡ false → all p s ≡ false
+  pub drop_fails : (s : List ℕ) (b : ℕ) → all p (drop b s) ≡ false → all p s ≡ false
   drop_fails s zero e = e
   drop_fails [] (suc b) e = e
   drop_fails (x ∷ s) (suc b) e = ap (λ (y : Bool). p x && y) (drop_fails s b e) ∙ and_false (p x)

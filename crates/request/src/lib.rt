@@ -88,9 +88,10 @@ pub enum Request {
     Relay(Place, Turn),
 }
 
-pub mod address;
+mod address;
 pub mod mode;
 mod name;
 pub mod read;
 
+pub use crate::address::address_fault;
 pub use crate::name::Name;

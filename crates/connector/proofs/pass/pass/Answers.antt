@@ -8,10 +8,10 @@ passed-requires c =
     let s = rw c.in-Some.is at c.requires.0.sends in
     (s.paced, omega arith, omega arith, c.requires.1)
 
-pub returns-in_default : goal.returns-in_default
-returns-in_default c =
+pub returns-in-None : goal.returns-in-None
+returns-in-None c =
     let args = c.args in
-    c.lit.ensures ∙ ap (λ s. passing_sending args.c args.place args.wait.0 s) (sym c.in_default.is)
+    c.lit.ensures ∙ ap (λ s. passing_sending args.c args.place args.wait.0 s) (sym c.in-None.is)
 
 pub returns-in-Running : goal.returns-in-Running
 returns-in-Running c =

@@ -2,7 +2,8 @@ use Rattle.logger.proofs.Tallies.{counted_sound}
 use Rattle.log_book.proofs.Books.{set_sound}
 use Rattle.log_book.proofs.book.Book.count.Goals as goal
 
-pub loop-tally-preserved : goal.loop-tally-preserved
-loop-tally-preserved c =
-    let was = c.loop-tally in
-    set_sound was.tally-items was.tally-index c.count.result was.invariant (rw c.count.ensures (counted_sound _ _ (was.invariant was.tally-index)))
+pub invariant_of-self : goal.invariant_of-self
+invariant_of-self c =
+    let was = c.loop-slot in
+    let counted = counted_sound _ _ (was.self.each was.slot) in
+    record { each = set_sound was.self.tallies was.slot c.count.result was.self.each (rw c.count.ensures counted) }

@@ -28,7 +28,7 @@ fn lit(c: Connector, wait: Micros) -> Passing
 }
 
 // The connector at a place some microseconds later. What it transmits is taken apart by a match and put together again: `let .. else` and a struct
-// update cost the port some 250 instructions a wait.
+// update cost the port 150 to 210 instructions a wait.
 pub fn pass(c: Connector, place: Place, wait: Micros) -> Passing
     requires { SoundConnector c × (wait.0 ≤ 1000000000) }
     ensures { result ≡ passing c place wait.0 }

@@ -16,6 +16,8 @@ pub struct AllPassed {
     pub completions: Completions,
 }
 
+// Inlined wherever a wait is, as `Hub::wait` is: called, it would have the connectors copied in and out.
+#[inline(always)]
 pub fn passed(connectors: [Connector; Hub::CONNECTORS], n: Micros) -> AllPassed
     requires { SoundAll connectors × (n.0 ≤ 1000000000) }
     ensures { result ≡ all_passed connectors n.0 }

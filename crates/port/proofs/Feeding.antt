@@ -10,6 +10,7 @@ use Rattle.laws.specs.Put.{over, Put}
 use Rattle.laws.proofs.Put.{nothing, put_length, then}
 use Rattle.server.specs.Record.{all_buffers}
 use Rattle.port.specs.declared.Progress.{Progress}
+use Rattle.port.specs.declared.turn.State.{State}
 use Rattle.port.specs.declared.turn.Turned.{Turned}
 use Rattle.port.specs.Turn.{SoundState, Whole, whole, after, turn_of, Turns}
 use Rattle.port.specs.Run.{turn_room, Runs, stops, turns, Feeds}
@@ -48,7 +49,7 @@ module _ {block : List ℕ} {from : ℕ} {begun : Whole} {before : List ℕ} {w 
   feeding_room = omega (arith, now.put.room, put_length now.put)
 
   -- one turn more
-  module _ {r : Turned} {store buffers out' : List ℕ} (t : Turns (turn_of w (drop i block)) out o r store buffers out') (less : i < length block)
+  module _ {r : Turned} {left : State} {store buffers out' : List ℕ} (t : Turns (turn_of w (drop i block)) out o r left store buffers out') (less : i < length block)
       (bytes : (k : ℕ) → get_or block k 0 < 256) where
     keeps : Keeps w (drop i block) (turn_of w (drop i block))
     keeps = turn_keeps w (drop i block) now.sound now.long (λ k. rw get_or-drop (bytes (i + k)))
@@ -60,7 +61,7 @@ module _ {block : List ℕ} {from : ℕ} {begun : Whole} {before : List ℕ} {w 
     pub turn_within : i + r.used ≤ length block
     turn_within = omega (arith, t.moves.used, keeps.within, length-drop i block)
 
-    pub feeding_more : turn_room ≤ length out - o → Feeding block from begun before (whole r.state store buffers) out' (i + r.used) r.end
+    pub feeding_more : turn_room ≤ length out - o → Feeding block from begun before (whole left store buffers) out' (i + r.used) r.end
     feeding_more room =
         let x = turn_of w (drop i block) in
         record {

@@ -99,7 +99,7 @@ pub piece_turns : (s : Server) (store buffers : List ℕ) (connection left : ℕ
     → Serves (piece_step s store buffers connection (take left block) 128) reply x kept joined laid
     → Put before at (answer_frames connection x.answer) out₁ a → Put out₁ a (change_frames connection x.change) out₂ end
     → f ≡ piece_of connection (left - x.used)
-    → Turns (piece_turn s store buffers connection left block) before at (record { state = state_of x.server f; used = x.used; end = end })
+    → Turns (piece_turn s store buffers connection left block) before at (record { used = x.used; end = end }) (state_of x.server f)
     kept joined out₂
 unfolding piece_turn
 piece_turns s store buffers connection left block v p q e =

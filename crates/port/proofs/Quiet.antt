@@ -84,17 +84,17 @@ wait_brief s n connection e = rw e (quiet_brief connection (wait_call s n).answe
 module _ {before out : List ℕ} {at end : ℕ} where
   pub closed_does : (s : Server) (connection : ℕ) {x : Served} → x ≡ closed_call s connection
       → Put before at (answer_frames connection x.answer) out end
-      → Does (closed_of s connection) before at (record { server = x.server; end = end }) out
+      → Does (closed_of s connection) before at end x.server out
   closed_does s connection e p = record { server = ap (λ (y : Served). y.server) e; put = subst (λ (y : Served). Put before at (answer_frames connection y.answer) out end) e p }
 
   pub reading_does : (s : Server) (port value : ℕ) {x : Served} → x ≡ reading_call s port value
       → Put before at (answer_frames port x.answer) out end
-      → Does (reading_of s port value) before at (record { server = x.server; end = end }) out
+      → Does (reading_of s port value) before at end x.server out
   reading_does s port value e p = record { server = ap (λ (y : Served). y.server) e; put = subst (λ (y : Served). Put before at (answer_frames port y.answer) out end) e p }
 
   pub wait_does : (s : Server) (connection n : ℕ) {x : WaitServed} → x ≡ wait_call s n
       → Put before at (answer_frames connection x.answer ++ wait_frames x.completions) out end
-      → Does (wait_of s connection n) before at (record { server = x.server; end = end }) out
+      → Does (wait_of s connection n) before at end x.server out
   wait_does s connection n e p =
       record {
         server = ap (λ (y : WaitServed). y.server) e;

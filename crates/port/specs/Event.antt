@@ -9,7 +9,6 @@ use Rattle.server.specs.Calls.{closed_call, reading_call, wait_call, due_of}
 use Rattle.frames.specs.declared.Event.{Event}
 use Rattle.frames.specs.declared.Event.TheVariants as event
 use Rattle.output.specs.Output.{refusal_frame, answer_frames, wait_frames, carriers_frame, levels_frame, not_due_frame, due_frame}
-use Rattle.port.specs.declared.event.Done.{Done}
 
 pub record Outcome : Type 0 where
   pub server : Server
@@ -47,7 +46,7 @@ event_of s store (Some event.Levels) = outcome s (levels_frame (levels_of s.hub)
 event_of s store (Some event.Due) = outcome s (due_frames (due_of s))
 event_of s store (Some (event.Refused connection number)) = outcome s (refusal_frame connection number)
 
--- the server, and the frames laid from a place on
-pub record Does (x : Outcome) (before : List ℕ) (at : ℕ) (r : Done) (after : List ℕ) : Type 0 where
-  pub server : r.server ≡ x.server
-  pub put : Put before at x.text after r.end
+-- the server that is left, and the frames laid from a place on up to an end
+pub record Does (x : Outcome) (before : List ℕ) (at end : ℕ) (left : Server) (after : List ℕ) : Type 0 where
+  pub server : left ≡ x.server
+  pub put : Put before at x.text after end

@@ -93,14 +93,14 @@ part_turn (part.Over left) w block = leaving w (over_move w.state.server left bl
 unfoldable pub turn_of : Whole → List ℕ → Turn
 turn_of w block = part_turn (part_of w.state.frame) w block
 
--- the result, and the frames laid from a place on
-pub record Moves (x : Move) (before : List ℕ) (at : ℕ) (r : Turned) (out : List ℕ) : Type 0 where
-  pub state : r.state ≡ x.state
+-- the result, the state that is left, and the frames laid from a place on
+pub record Moves (x : Move) (before : List ℕ) (at : ℕ) (r : Turned) (left : State) (out : List ℕ) : Type 0 where
+  pub state : left ≡ x.state
   pub used : r.used ≡ x.used
   pub put : Put before at x.text out r.end
 
--- and what is lent
-pub record Turns (x : Turn) (before : List ℕ) (at : ℕ) (r : Turned) (store buffers out : List ℕ) : Type 0 where
-  pub moves : Moves x.move before at r out
+-- and what else is lent
+pub record Turns (x : Turn) (before : List ℕ) (at : ℕ) (r : Turned) (left : State) (store buffers out : List ℕ) : Type 0 where
+  pub moves : Moves x.move before at r left out
   pub kept : store ≡ x.store
   pub joined : buffers ≡ x.buffers

@@ -1,4 +1,5 @@
-// An event answered: its frames are laid into `out` from a place on.
+// An event answered: its frames are laid into `out` from a place on. The server is lent: most events leave it as it is, and then none of it is
+// moved.
 ghost use Rattle.std.specs.Prelude.{◌+◌, ◌≤◌, length};
 ghost use Rattle.laws.specs.Put.{Put};
 ghost use Rattle.server.specs.Record.{SoundServer};
@@ -13,51 +14,38 @@ use output::{
 use pace::Micros;
 use server::Server;
 
-// The server after an event, and the place behind its frames.
-#[derive(Clone, Copy)]
-pub struct Done {
-    pub server: Server,
-    pub end: usize,
-}
-
-fn closed(server: Server, connection: u8, out: &mut [u8], at: usize) -> Done
+fn closed(server: &mut Server, connection: u8, out: &mut [u8], at: usize) -> usize
     requires { at + 512 ≤ length out.old }
-    ensures { Does (closed_of server connection) out.old at result out.new }
+    ensures { Does (closed_of server.old connection) out.old at result server.new out.new }
 {
     let served = server.closed(connection as u64);
-    Done {
-        server: served.server,
-        end: put_answer(out, at, connection, served.answer, b""),
-    }
+    *server = served.server;
+    put_answer(out, at, connection, served.answer, b"")
 }
 
-fn reading(server: Server, port: u8, value: u8, out: &mut [u8], at: usize) -> Done
+fn reading(server: &mut Server, port: u8, value: u8, out: &mut [u8], at: usize) -> usize
     requires { at + 512 ≤ length out.old }
-    ensures { Does (reading_of server port value) out.old at result out.new }
+    ensures { Does (reading_of server.old port value) out.old at result server.new out.new }
 {
     let served = server.reading(port as u64, value as u64);
-    Done {
-        server: served.server,
-        end: put_answer(out, at, port, served.answer, b""),
-    }
+    *server = served.server;
+    put_answer(out, at, port, served.answer, b"")
 }
 
-fn waited(server: Server, connection: u8, n: Micros, out: &mut [u8], at: usize) -> Done
-    requires { SoundServer server × (at + 512 ≤ length out.old) }
-    ensures { Does (wait_of server connection n.0) out.old at result out.new }
+fn waited(server: &mut Server, connection: u8, n: Micros, out: &mut [u8], at: usize) -> usize
+    requires { SoundServer server.old × (at + 512 ≤ length out.old) }
+    ensures { Does (wait_of server.old connection n.0) out.old at result server.new out.new }
 {
     let served = server.wait(n);
+    *server = served.server;
     let a = put_answer(out, at, connection, served.answer, b"");
-    Done {
-        server: served.server,
-        end: put_completions(out, a, served.completions),
-    }
+    put_completions(out, a, served.completions)
 }
 
 // When the next completion is due.
-fn put_next(server: Server, out: &mut [u8], at: usize) -> usize
-    requires { SoundServer server × (at + 512 ≤ length out.old) }
-    ensures { Put out.old at (due_frames (due_of server)) out.new result }
+fn put_next(server: &Server, out: &mut [u8], at: usize) -> usize
+    requires { SoundServer server.now × (at + 512 ≤ length out.old) }
+    ensures { Put out.old at (due_frames (due_of server.now)) out.new result }
 {
     match server.due() {
         None => put_not_due(out, at),
@@ -68,37 +56,25 @@ fn put_next(server: Server, out: &mut [u8], at: usize) -> usize
 // Where nothing is complete, nothing is answered.
 #[tactic(auto, unfolding(crate::specs::Event::event_of))]
 pub fn answered(
-    server: Server,
+    server: &mut Server,
     store: &Store,
     event: Option<Event>,
     out: &mut [u8],
     at: usize,
-) -> Done
-    requires { SoundServer server × (at + 512 ≤ length out.old) }
-    ensures { Does (event_of server store.now event) out.old at result out.new }
+) -> usize
+    requires { SoundServer server.old × (at + 512 ≤ length out.old) }
+    ensures { Does (event_of server.old store.now event) out.old at result server.new out.new }
 {
     let Some(event) = event else {
-        return Done { server, end: at };
+        return at;
     };
     match event {
         Event::Closed(connection) => closed(server, connection, out, at),
         Event::Reading { port, value } => reading(server, port, value, out, at),
         Event::Wait { connection, micros } => waited(server, connection, micros, out, at),
-        Event::Carriers => Done {
-            server,
-            end: put_carriers(out, at, server.carriers(store)),
-        },
-        Event::Levels => Done {
-            server,
-            end: put_levels(out, at, server.levels()),
-        },
-        Event::Due => Done {
-            server,
-            end: put_next(server, out, at),
-        },
-        Event::Refused { connection, number } => Done {
-            server,
-            end: put_refusal(out, at, connection, number),
-        },
+        Event::Carriers => put_carriers(out, at, server.carriers(store)),
+        Event::Levels => put_levels(out, at, server.levels()),
+        Event::Due => put_next(server, out, at),
+        Event::Refused { connection, number } => put_refusal(out, at, connection, number),
     }
 }

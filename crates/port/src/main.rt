@@ -52,8 +52,7 @@ fn fed(
                 end: o,
             };
         }
-        let turned = turn::turn(next, store, buffers, &block[i..], out, o);
-        next = turned.state;
+        let turned = turn::turn(&mut next, store, buffers, &block[i..], out, o);
         i += turned.used;
         o = turned.end;
     }

@@ -1,7 +1,7 @@
-// A turn: the next bytes of a block, as many as belong together, and the frames that answer them, laid into `out` from a place on.
+// A turn: the next bytes of a block, as many as belong together, and the frames that answer them, laid into `out` from a place on. The state is
+// lent, so that a turn that leaves the server as it is moves none of it.
 ghost use Rattle.std.specs.Prelude.{◌≡◌, ◌+◌, ◌≤◌, length, take};
 ghost use Rattle.server.specs.Record.{SoundServer};
-ghost use Rattle.frames.specs.Read.{SoundFrame};
 ghost use Rattle.port.specs.Turn.{fresh_state, SoundState, whole, head_move, piece_turn, over_move, turn_of, Moves, Turns};
 
 use crate::event;
@@ -28,10 +28,9 @@ impl State {
     }
 }
 
-// The state after a turn, how many bytes it used, and the place behind its frames.
+// How many bytes a turn used, and the place behind its frames.
 #[derive(Clone, Copy)]
 pub struct Turned {
-    pub state: State,
     pub used: usize,
     pub end: usize,
 }
@@ -44,33 +43,23 @@ fn front(block: &[u8], size: usize) -> &[u8]
 }
 
 // Bytes of heads and numbers, and the event that they complete.
-fn heads(
-    server: Server,
-    frame: Frame,
-    store: &Store,
-    block: &[u8],
-    out: &mut [u8],
-    at: usize,
-) -> Turned
-    requires { SoundServer server × SoundFrame frame × (at + 512 ≤ length out.old) }
-    ensures { Moves (head_move server frame store.now block.now) out.old at result out.new }
+fn heads(state: &mut State, store: &Store, block: &[u8], out: &mut [u8], at: usize) -> Turned
+    requires { SoundState state.old × (at + 512 ≤ length out.old) }
+    ensures { Moves (head_move state.old.server state.old.frame store.now block.now)
+        out.old at result state.new out.new }
 {
-    let read = frame.read(block);
-    let next = read.frame;
-    let done = event::answered(server, store, read.event, out, at);
+    let read = state.frame.read(block);
+    state.frame = read.frame;
+    let end = event::answered(&mut state.server, store, read.event, out, at);
     Turned {
-        state: State {
-            server: done.server,
-            frame: next,
-        },
         used: read.used,
-        end: done.end,
+        end,
     }
 }
 
 // Bytes of a piece, of which so many are left.
 fn piece(
-    server: Server,
+    state: &mut State,
     store: &mut Store,
     buffers: &mut [u8],
     connection: u8,
@@ -79,68 +68,55 @@ fn piece(
     out: &mut [u8],
     at: usize,
 ) -> Turned
-    requires { SoundServer server × (at + 512 ≤ length out.old) }
-    ensures { Turns (piece_turn server store.old buffers.old connection left block.now)
-        out.old at result store.new buffers.new out.new }
+    requires { SoundServer state.old.server × (at + 512 ≤ length out.old) }
+    ensures { Turns (piece_turn state.old.server store.old buffers.old connection left block.now)
+        out.old at result state.new store.new buffers.new out.new }
 {
     let mut reply = [0u8; Reply::ROOM];
-    let served = server.piece(
+    let served = state.server.piece(
         store,
         buffers,
         connection as u64,
         front(block, left),
         &mut reply,
     );
-    let next = served.server;
+    state.server = served.server;
     let answer = served.answer;
     let change = served.change;
     let size = served.size;
     let a = put_answer(out, at, connection, answer, &reply[..size]);
     let end = put_change(out, a, connection, change);
     let used = served.used;
-    let frame = Frame::piece_of(connection, left - used);
-    Turned {
-        state: State {
-            server: next,
-            frame,
-        },
-        used,
-        end,
-    }
+    state.frame = Frame::piece_of(connection, left - used);
+    Turned { used, end }
 }
 
 // Bytes that are passed over, of which so many are left.
-fn over(server: Server, left: usize, block: &[u8], at: usize) -> Turned
-    ensures { (result.state ≡ (over_move server left block.now).state) × (result.used ≡ (over_move server left block.now).used) × (result.end ≡ at) }
+fn over(state: &mut State, left: usize, block: &[u8], at: usize) -> Turned
+    ensures { (state.new ≡ (over_move state.old.server left block.now).state) × (result.used ≡ (over_move state.old.server left block.now).used) × (result.end ≡ at) }
 {
     let used = front(block, left).len();
-    let frame = Frame::passing(left - used);
-    Turned {
-        state: State { server, frame },
-        used,
-        end: at,
-    }
+    state.frame = Frame::passing(left - used);
+    Turned { used, end: at }
 }
 
 pub fn turn(
-    state: State,
+    state: &mut State,
     store: &mut Store,
     buffers: &mut [u8],
     block: &[u8],
     out: &mut [u8],
     at: usize,
 ) -> Turned
-    requires { SoundState state × (at + 512 ≤ length out.old) }
-    ensures { Turns (turn_of (whole state store.old buffers.old) block.now)
-        out.old at result store.new buffers.new out.new }
+    requires { SoundState state.old × (at + 512 ≤ length out.old) }
+    ensures { Turns (turn_of (whole state.old store.old buffers.old) block.now)
+        out.old at result state.new store.new buffers.new out.new }
 {
-    let server = state.server;
-    let frame = state.frame;
-    match frame.part() {
-        Part::Head => heads(server, frame, store, block, out, at),
+    match state.frame.part() {
+        Part::Head => heads(state, store, block, out, at),
         Part::Piece { connection, left } => {
-            piece(server, store, buffers, connection, left, block, out, at)
+            piece(state, store, buffers, connection, left, block, out, at)
         }
-        Part::Over(left) => over(server, left, block, at),
+        Part::Over(left) => over(state, left, block, at),
     }
 }

@@ -4,26 +4,26 @@ use mathlib.Core.Path.{◌≡◌, refl, sym, ap, ◌∙◌}
 use mathlib.Core.Bool.{true, false, not}
 use mathlib.Core.List.{List, [], ◌∷◌, ◌++◌, append-nil}
 use native.Mathlib.Omega.{arith}
-use borrow.Author.Tests.{eq-eqb}
+use borrow.Author.Tests.{eq-eqb, ne_eqb}
 use lib.Dec.{eqb}
-use lib.ListN.{length, take, drop, length-append}
+use lib.ListN.{length, take, drop, get_or, length-append, drop_of_length-le}
 use lib.Seq.{take-append_seam, drop-append-add}
-use Rattle.std.specs.List.{position, position_or_len}
-use Rattle.std.specs.Option.{unwrap_or}
-use native.Mathlib.Numerals.{one-add}
-use Rattle.hub.proofs.Inserting.{place_is}
 use Rattle.laws.specs.Lists.{cut, behind, free}
 use Rattle.laws.proofs.Choice.{by_test}
 use Rattle.laws.proofs.Cutting.{up_to, from, split, Ending, ends, goes, ending, all_broken}
 use Rattle.laws.proofs.Joining.{cut_next}
+use Rattle.laws.proofs.Lists.{drop_next}
 
--- ---- where the first c stands
-up_to_first : (c : ℕ) (s : List ℕ) → position_or_len (λ b. eqb b c) s ≡ length (up_to c s)
-up_to_first c [] = refl
-up_to_first c (b ∷ s) = by_test (eqb b c) (λ e. rw e) (λ e. rw (e, one-add) (ap suc (up_to_first c s)))
+-- ---- the loop
+module _ (c : ℕ) (s : List ℕ) (i : ℕ) where
+  pub up_to_more : i < length s → (get_or s i 0 ≡ c → ⊥) → length (up_to c (drop i s)) ≡ suc (length (up_to c (drop (i + 1) s)))
+  up_to_more h ne = rw (drop_next s i 0 h, ne_eqb (get_or s i 0) c ne)
 
-pub up_to_place : (c : ℕ) (s : List ℕ) → unwrap_or (position (λ b. eqb b c) s) (length s) ≡ length (up_to c s)
-up_to_place c s = place_is (λ b. eqb b c) s ∙ up_to_first c s
+  pub up_to_stop : i < length s → get_or s i 0 ≡ c → length (up_to c (drop i s)) ≡ 0
+  up_to_stop h e = rw (drop_next s i 0 h, eq-eqb (get_or s i 0) c e)
+
+  pub up_to_done : length s ≤ i → length (up_to c (drop i s)) ≡ 0
+  up_to_done h = rw (drop_of_length-le s h)
 
 -- ---- a text with a c in it, and one without
 module _ (c : ℕ) where

@@ -7,6 +7,10 @@ pub fn part_end(s: &[u8], at: usize, c: u8) -> usize
     requires { at ≤ length s.now }
     ensures { result ≡ at + length (up_to c (drop at s.now)) }
 {
-    let rest = &s[at..];
-    at + rest.iter().position(|&b| b == c).unwrap_or(rest.len())
+    for i in at..s.len() {
+        if s[i] == c {
+            return i;
+        }
+    }
+    s.len()
 }

@@ -22,4 +22,4 @@ pub overflow_sub-left : goal.overflow_sub-left
 overflow_sub-left c = omega (arith, served_used _ _ _ _ _ _ c.piece-served.ensures, ap length c.front.ensures, length-take c.args.left c.args.block.now)
 
 pub returns : goal.returns
-returns c = piece_turns _ _ _ _ _ _ (rw c.front.ensures at c.piece-served.ensures) c.put_answer-a.ensures c.put_change-end.ensures c.piece_of-frame.ensures
+returns c = piece_turns _ _ _ _ _ _ (rw c.front.ensures at c.piece-served.ensures) c.put_answer-a.ensures c.put_change-end.ensures c.piece_of-state.ensures

@@ -1,5 +1,5 @@
-// An event answered: its frames are laid into `out` from a place on. The server is lent: most events leave it as it is, and then none of it is
-// moved.
+// An event answered: its frames are laid into `out` from a place on. The server is lent, and not taken and given back: most events leave it as
+// it is.
 ghost use Rattle.std.specs.Prelude.{◌+◌, ◌≤◌, length};
 ghost use Rattle.laws.specs.Put.{Put};
 ghost use Rattle.server.specs.Record.{SoundServer};

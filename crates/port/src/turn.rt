@@ -1,5 +1,5 @@
 // A turn: the next bytes of a block, as many as belong together, and the frames that answer them, laid into `out` from a place on. The state is
-// lent, so that a turn that leaves the server as it is moves none of it.
+// lent: taken and given back, the whole of it would be moved at every turn.
 ghost use Rattle.std.specs.Prelude.{◌≡◌, ◌+◌, ◌≤◌, length, take};
 ghost use Rattle.server.specs.Record.{SoundServer};
 ghost use Rattle.port.specs.Turn.{fresh_state, SoundState, whole, head_move, piece_turn, over_move, turn_of, Moves, Turns};

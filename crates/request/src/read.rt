@@ -39,10 +39,13 @@ fn all_printable(s: &[u8]) -> bool
     if size < 16 {
         return run_printable(&s[..8]) && run_printable(&s[size - 8..]);
     }
-    for piece in s.chunks_exact(16) {
+    // `chunks_exact` would divide by its size, where docs/EMBEDDING.md says that nothing does
+    let mut left = s;
+    while let Some((piece, behind)) = left.split_at_checked(16) {
         if !run_printable(piece) {
             return false;
         }
+        left = behind;
     }
     run_printable(&s[size - 16..])
 }
